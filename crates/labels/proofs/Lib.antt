@@ -1,0 +1,9 @@
+-- The lemmas of `labels`. What crates above cite is `pub mod`.
+pub mod Members
+pub mod Free
+pub mod Pairs
+pub mod Rule
+pub mod Unique
+pub mod Bound
+pub mod Theory
+pub mod Examples
