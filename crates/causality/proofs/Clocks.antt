@@ -1,6 +1,6 @@
 -- The vector clocks compute the latests, and with them the past.
 use Prim.Native.Nat.{ℕ, zero, suc, _≤_, _<_, max}
-use mathlib.Core.Path.{_≡_, refl, sym, ap, subst, _∙_}
+use mathlib.Core.Path.{_≡_, refl, sym, ap, ap₂, subst, _∙_}
 use mathlib.Core.Logic.{_↔_, _⊎_, inl, inr}
 use mathlib.Core.List.{List, [], _∷_}
 use native.Mathlib.Omega.{arith}
@@ -12,6 +12,7 @@ use Rattle.causality.specs.Event.{Event, History, Of}
 use Rattle.causality.specs.Past.{Past, newest, last, View}
 use Rattle.causality.specs.Latest.{Newest, LatestIn, Latest}
 use Rattle.causality.specs.Clock.{put, maxima, joined, clocks, latest, latestIn, inPast}
+use Rattle.causality.specs.Best.{newer, best, bestIn}
 use Rattle.causality.proofs.Newest.{newest-ge, newest-unique, newest-suc-yes, newest-zero}
 use Rattle.causality.proofs.Events.{T-dec, of-pos, of-either, of-first, of-second, of-cases, of-dec}
 use Rattle.causality.proofs.Pasts.{past-pos, past-le, past-refl, past-trans, comparable, last-le, last-of, last-joined, last-apart, past-suc, view-next}
@@ -128,6 +129,10 @@ latestIn-is h (suc k) r = rw (last-joined (of-first h k)) at (latest-is h (suc k
 -- a process knows what its last event has in its past
 pub latest-last : (h : History) (n p r : ℕ) → latest h n p r ≡ latestIn h (last h n p) r
 latest-last h n p r = newest-unique (latest-is h n p r) (latestIn-is h (last h n p) r)
+
+pub best-pasts : (h : History) (n p q r : ℕ) → best h n p q r ≡ bestIn h (last h n p) (last h n q) r
+unfolding best bestIn
+best-pasts h n p q r = ap₂ newer (latest-last h n p r) (latest-last h n q r)
 
 pub latest-iff : (h : History) (n p r k : ℕ) → Latest h n p r k ↔ (latest h n p r ≡ k)
 latest-iff h n p r k =

@@ -4,6 +4,7 @@ use mathlib.Core.Path.{_≡_, refl, subst}
 use mathlib.Core.Bool.{Bool, true, false, _||_}
 use mathlib.Core.Logic.{_↔_, _⊎_, inl, inr}
 use native.Mathlib.Omega.{arith}
+use borrow.Author.Tests.{eq-eqb}
 use lib.Dec.{T, eqb, eqb→eq, eqb-refl}
 use Rattle.causality.specs.Event.{Event, History, Of, takesPart}
 
@@ -30,7 +31,7 @@ of-pos {k = suc k} o = omega arith
 
 pub of-first : (h : History) (k : ℕ) → Of h (h k .first) (suc k)
 unfolding takesPart
-of-first h k = record { holds = or-left (eqb (h k .first) (h k .first)) (eqb (h k .second) (h k .first)) (eqb-refl (h k .first)) }
+of-first h k = record { holds = rw (eq-eqb (h k .first) (h k .first) refl) tt }
 
 pub of-second : (h : History) (k : ℕ) → Of h (h k .second) (suc k)
 unfolding takesPart

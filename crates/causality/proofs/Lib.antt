@@ -10,4 +10,3 @@ pub mod GoodPaths
 pub mod Agreement
 pub mod MessagePasts
 pub mod Theory
-pub mod Examples

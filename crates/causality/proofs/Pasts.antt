@@ -26,11 +26,14 @@ module _ {h : History} where
   past-trans c (here l) = c
   past-trans c (on d k) = on (past-trans c d) k
 
+  linked : {r x y : ℕ} → Of h r x → Of h r y → x < y → Link h x y
+  linked {r} o q a = record { process = r; of-older = search; of-newer = search; ascends = a }
+
   -- of two events of one process the older lies in the past of the newer
   pub comparable : {r x y : ℕ} → Of h r x → Of h r y → x ≤ y → Past h x y
   comparable {r} {x} {y} o q l =
       elim (decLt x y) [
-        | yes a ↦ on (past-refl o) (record { process = r; of-older = o; of-newer = q; ascends = a })
+        | yes a ↦ on (past-refl o) (linked o q a)
         | no f ↦ let e : x ≡ y = omega arith in subst (Past h x) e (past-refl o)
       ]
 

@@ -7,7 +7,7 @@ use Rattle.causality.specs.Past.{here, last}
 use Rattle.causality.specs.Clock.{latest, latestIn}
 use Rattle.causality.specs.Theory.{Theory}
 use Rattle.causality.proofs.Pasts.{past-le, past-trans, comparable, view-apart, view-joined}
-use Rattle.causality.proofs.Clocks.{past-test, past-dec, latest-apart, latest-own, latest-max, latest-iff, latestIn-iff, latest-self}
+use Rattle.causality.proofs.Clocks.{best-pasts, past-test, past-dec, latest-apart, latest-own, latest-max, latest-iff, latestIn-iff, latest-self}
 use Rattle.causality.proofs.Agreement.{agree-sym, past-agree, last-agree, latest-agree}
 use Rattle.causality.proofs.GoodPaths.{path-latest, path-best}
 use Rattle.causality.proofs.Common.{common-event}
@@ -35,6 +35,7 @@ theory h =
       latestIn-iff = latestIn-iff h;
       path-latest = path-latest h;
       path-best = path-best h;
+      best-pasts = best-pasts h;
       common-event = λ n p q x. common-event h n p q;
       known-view = known-view h;
       known-le = known-le h;

@@ -9,3 +9,4 @@ pub mod GoodPath
 pub mod Meetings
 pub mod Messages
 pub mod Theory
+pub mod Examples

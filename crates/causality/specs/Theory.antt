@@ -7,7 +7,7 @@ use Rattle.causality.specs.Event.{Event, History, Of}
 use Rattle.causality.specs.Past.{Past, last, View}
 use Rattle.causality.specs.Latest.{LatestIn, Latest}
 use Rattle.causality.specs.Clock.{latest, latestIn, inPast}
-use Rattle.causality.specs.Best.{best}
+use Rattle.causality.specs.Best.{best, bestIn}
 use Rattle.causality.specs.Known.{Order, Known, CommonEvent}
 use Rattle.causality.specs.GoodPath.{LatestByPath, BestByPath, Winner, winner}
 use Rattle.causality.specs.Meetings.{Agree}
@@ -41,6 +41,7 @@ pub record Theory (h : History) : Type 0 where
   pub latestIn-iff : (y r k : ℕ) → LatestIn h y r k ↔ (latestIn h y r ≡ k)
   pub path-latest : (n p r k : ℕ) → LatestByPath h n p r k ↔ (latest h n p r ≡ k)
   pub path-best : (n p q r : ℕ) (w : Winner) → BestByPath h n p q r w ↔ (winner p q (best h n p q r) ≡ w)
+  pub best-pasts : (n p q r : ℕ) → best h n p q r ≡ bestIn h (last h n p) (last h n q) r
   -- 2. What lies in two views lies in the past of an event that is a latest of both.
   pub common-event : (n p q x : ℕ) → View h n p x → View h n q x → CommonEvent h n p q x
   -- 3. Known is in the other's view; the verdict follows from known; at least one of the two is known.

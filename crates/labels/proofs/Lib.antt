@@ -4,6 +4,5 @@ pub mod Free
 pub mod Pairs
 pub mod Rule
 pub mod Unique
-pub mod Bound
+pub mod Limit
 pub mod Theory
-pub mod Examples

@@ -6,7 +6,7 @@ use Rattle.causality.specs.Meetings.{Joins}
 use Rattle.labels.specs.Theory.{Theory}
 use Rattle.labels.proofs.Rule.{label-free, label-lowest, label-agree}
 use Rattle.labels.proofs.Unique.{names-agree}
-use Rattle.labels.proofs.Bound.{label-bound}
+use Rattle.labels.proofs.Limit.{label-bound}
 
 pub theory : (N : ℕ) (h : History) → ((k : ℕ) → Joins N (h k)) → Theory N h
 theory N h joins =

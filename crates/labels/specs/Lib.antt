@@ -4,3 +4,4 @@ pub mod Label
 pub mod Name
 pub mod Tight
 pub mod Theory
+pub mod Examples

@@ -1,12 +1,11 @@
 -- Worked histories, by evaluation.
 use Prim.Native.Nat.{ℕ}
 use mathlib.Core.Path.{_≡_, refl}
-use mathlib.Core.Bool.{_||_}
 use mathlib.Core.List.{List, [], _∷_, _++_, map}
 use Rattle.causality.specs.Event.{Event, History, takesPart}
 use Rattle.causality.specs.Past.{last, newest}
-use Rattle.causality.specs.Clock.{put, maxima, joined, clocks, latest, latestIn, inPast}
-use Rattle.causality.specs.Best.{newer, best, upTo, verdicts}
+use Rattle.causality.specs.Clock.{put, maxima, joined, clocks, latest, latestIn}
+use Rattle.causality.specs.Best.{newer, best, bestIn, upTo, verdicts}
 use Rattle.causality.specs.Meetings.{meeting, meetings}
 use Rattle.causality.specs.Messages.{Action, send, receive, actor, messageOf, messages, word}
 
@@ -45,3 +44,8 @@ figure-1 =
 latests-figure-1 : (last figure-1 10 2 ≡ 9) × (latest figure-1 10 2 1 ≡ 2) × (latest figure-1 10 2 3 ≡ 5) × (latest figure-1 10 3 1 ≡ 3)
 unfolding figure-1 messages word actor messageOf last newest takesPart latest clocks joined put maxima
 latests-figure-1 = (refl, refl, refl, refl)
+
+-- so when p's first message arrives, at place 9, the receiver has the newer news of p, and the sender of nobody
+verdict-figure-1 : map (bestIn figure-1 1 (last figure-1 8 2)) (upTo 3) ≡ 2 ∷ 2 ∷ 2 ∷ []
+unfolding figure-1 messages word actor messageOf last newest takesPart upTo bestIn newer latestIn latest clocks joined put maxima
+verdict-figure-1 = refl
