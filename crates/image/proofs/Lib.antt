@@ -1,0 +1,8 @@
+-- The lemmas of `image`. What crates above cite is `pub mod`.
+pub mod Search
+pub mod Bits
+pub mod Tables
+pub mod Gather
+pub mod Places
+pub mod OrderByte
+pub mod Stages

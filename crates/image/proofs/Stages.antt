@@ -1,0 +1,77 @@
+-- The check, stage by stage: the first number that applies is the answer.
+use Prim.Native.Nat.{ℕ, _+_, _*_, _≤_}
+use mathlib.Core.Path.{_≡_, refl, sym, _∙_}
+use mathlib.Core.Bool.{Bool, true, false, _&&_, not, true≢false}
+use mathlib.Core.List.{List}
+use native.Mathlib.Omega.{arith}
+use borrow.Author.Tests.{leb-true, le-leb, eq-eqb, ne-eqb}
+use lib.Dec.{leb, eqb}
+use lib.ListN.{length, getD}
+use Rattle.image.specs.Layout.{largest, lengthOf}
+use Rattle.image.specs.Frame.{Sized, Framed}
+use Rattle.image.specs.Check.{badCount, badLength, badStall, badYields, badNames, badMarks, checkBody, checked}
+use Rattle.image.specs.declared.Header.{Header}
+use Rattle.image.specs.declared.Checked.{Checked}
+use Rattle.image.specs.declared.Checked.the-variants.{Good, Refused}
+
+-- a range test that did not fail
+pub in-range : (a b x : ℕ) → not (leb a x && leb x b) ≡ false → (a ≤ x) × (x ≤ b)
+in-range a b x e = go (leb a x) (leb x b) refl refl e
+  where
+    go : (s t : Bool) → leb a x ≡ s → leb x b ≡ t → not (s && t) ≡ false → (a ≤ x) × (x ≤ b)
+    go true true p q d = (leb-true a x p, leb-true x b q)
+    go true false p q d = absurd (true≢false d)
+    go false t p q d = absurd (true≢false d)
+
+pub framed : {s : List ℕ} {n own : ℕ} → Sized s n → badStall n own ≡ false → Framed s n own
+framed {n = n} {own = own} z e =
+    let (a, b) = in-range 1 n own e in
+    record { n-from = z .n-from; n-to = z .n-to; own-from = a; own-to = b; long = z .long }
+
+pub sized : {s : List ℕ} → not (leb 2 (getD s 0 0) && leb (getD s 0 0) largest) ≡ false → length s ≡ lengthOf (getD s 0 0) → Sized s (getD s 0 0)
+sized {s} e d =
+    let n = getD s 0 0 in
+    let (a, b) = in-range 2 largest n e in
+    record { n-from = a; n-to = b; long = (rw (le-leb 2 n a, le-leb n largest b) at d) ∙ omega arith }
+
+-- Which number applies first
+
+module _ (s : List ℕ) (n own : ℕ) where
+  pub refused-3 : badStall n own ≡ true → Refused 3 ≡ checkBody s n own
+  unfolding checkBody
+  refused-3 a = rw a
+
+  pub refused-4 : badStall n own ≡ false → badYields s n ≡ true → Refused 4 ≡ checkBody s n own
+  unfolding checkBody
+  refused-4 a b = rw (a, b)
+
+  pub refused-5 : badStall n own ≡ false → badYields s n ≡ false → badNames s n own ≡ true → Refused 5 ≡ checkBody s n own
+  unfolding checkBody
+  refused-5 a b c = rw (a, b, c)
+
+  pub refused-6 : badStall n own ≡ false → badYields s n ≡ false → badNames s n own ≡ false → badMarks s n own ≡ true → Refused 6 ≡ checkBody s n own
+  unfolding checkBody
+  refused-6 a b c d = rw (a, b, c, d)
+
+  pub good-body : badStall n own ≡ false → badYields s n ≡ false → badNames s n own ≡ false → badMarks s n own ≡ false
+      → Good (record { n = n; stall = own }) ≡ checkBody s n own
+  unfolding checkBody
+  good-body a b c d = rw (a, b, c, d)
+
+module _ (s : List ℕ) where
+  pub refused-empty : length s ≡ 0 → Refused 1 ≡ checked s
+  unfolding checked badCount
+  refused-empty a = rw (eq-eqb (length s) 0 a)
+
+  pub refused-1 : (length s ≡ 0 → ⊥) → not (leb 2 (getD s 0 0) && leb (getD s 0 0) largest) ≡ true → Refused 1 ≡ checked s
+  unfolding checked badCount
+  refused-1 a b = rw (ne-eqb (length s) 0 a, b)
+
+  pub refused-2 : (length s ≡ 0 → ⊥) → not (leb 2 (getD s 0 0) && leb (getD s 0 0) largest) ≡ false → (length s ≡ lengthOf (getD s 0 0) → ⊥) → Refused 2 ≡ checked s
+  unfolding checked badCount badLength
+  refused-2 a b c = rw (ne-eqb (length s) 0 a, b, ne-eqb (length s) (lengthOf (getD s 0 0)) c)
+
+  pub checked-body : (length s ≡ 0 → ⊥) → not (leb 2 (getD s 0 0) && leb (getD s 0 0) largest) ≡ false → length s ≡ lengthOf (getD s 0 0)
+      → checkBody s (getD s 0 0) (getD s 1 0) ≡ checked s
+  unfolding checked badCount badLength
+  checked-body a b c = rw (ne-eqb (length s) 0 a, b, eq-eqb (length s) (lengthOf (getD s 0 0)) c)

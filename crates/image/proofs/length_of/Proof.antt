@@ -1,0 +1,40 @@
+-- The table of lengths follows its rule, by one test of the whole table.
+use Prim.Native.Nat.{ℕ, _<_, _≤_}
+use mathlib.Core.Path.{_≡_, refl, sym}
+use mathlib.Core.Bool.{_&&_, cond}
+use mathlib.Core.List.{List, [], _∷_}
+use native.Mathlib.Omega.{arith}
+use borrow.Author.Tests.{le-leb, lt-leb}
+use borrow.Author.Needs.{needs}
+use lib.Dec.{leb}
+use lib.ListN.{getD}
+use Rattle.image.specs.Stalls.{some}
+use Rattle.image.specs.Layout.{lengthOf}
+use Rattle.image.proofs.Tables.{table-rule}
+use Rattle.image.proofs.length_of.Statement.{statement}
+use Rattle.image.proofs.length_of.Tie as tie
+
+abbrev lengths : List ℕ
+lengths = 0 ∷ 0 ∷ 18 ∷ 31 ∷ 48 ∷ 69 ∷ 94 ∷ 123 ∷ 156 ∷ []
+
+rule : (k : ℕ) → k < 9 → getD lengths k 0 ≡ lengthOf k
+unfolding some
+rule = table-rule 9 (λ k. getD lengths k 0) lengthOf refl
+
+beyond : (n : ℕ) → 8 < n → lengthOf n ≡ 0
+beyond n l = rw (le-leb 2 n (omega arith), lt-leb n 8 l)
+
+returns : tie.Need-returns
+returns c = rule (c .before .args .n) (search needs)
+
+returns-2 : tie.Need-returns-2
+returns-2 c = sym (beyond (c .before .args .n) (search needs))
+
+mul-result : tie.Need-mul-result
+mul-result c = search needs
+
+array-read-result : tie.Need-array-read-result
+array-read-result c = search needs
+
+pub length-of-spec : {M : Type 1} → statement M
+length-of-spec = tie.close (tie.spec mul-result array-read-result returns returns-2)

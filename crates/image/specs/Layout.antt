@@ -1,0 +1,80 @@
+-- The byte image of a table.
+-- Document 01: "Byte image, unsigned bytes: N; own stall; current yield in two bytes, high first; N rows of N names, each a partner byte (0 for none) and a
+-- label byte (0 for none); N yields of two bytes; N order bytes, byte r having the bit of value 2 to the power s−1 for mark (r, s)."
+use Prim.Native.Nat.{ℕ, _+_, _-_, _*_}
+use mathlib.Core.Bool.{Bool, _&&_, not, cond}
+use mathlib.Core.List.{List}
+use lib.Dec.{leb, eqb}
+use lib.ListN.{getD}
+use Rattle.image.specs.Stalls.{has}
+use Rattle.image.specs.declared.Meet.{Meet}
+use Rattle.image.specs.declared.Name.{Name}
+use Rattle.image.specs.declared.Name.the-variants.{Never, With}
+
+-- the most heads that a parlour has
+abbrev pub largest : ℕ
+largest = 8
+
+-- "decilitres, 0 to 999"
+abbrev pub yieldLimit : ℕ
+yieldLimit = 999
+
+-- "Labels run from 0 to 4 × N."
+abbrev pub labelLimit : ℕ → ℕ
+labelLimit n = 4 * n
+
+-- "0 when fresh", and "None has yield 0": the yield of a head that was not milked, and of a stall never heard
+abbrev pub noYield : ℕ
+noYield = 0
+
+-- "Length 2 × N × N + 3 × N + 4", for 2 to 8 heads; 0 for any other number
+abbrev pub lengthOf : ℕ → ℕ
+lengthOf n = cond (leb 2 n && leb n largest) (2 * n * n + 3 * n + 4) 0
+
+-- two bytes as a number, high first
+abbrev pub word : List ℕ → ℕ → ℕ
+word s at = getD s at 0 * 256 + getD s (at + 1) 0
+
+-- where a row, a name in it, a yield and an order byte start
+abbrev pub rowPlace : ℕ → ℕ → ℕ
+rowPlace n r = 4 + (r - 1) * (n + n)
+
+abbrev pub namePlace : ℕ → ℕ → ℕ → ℕ
+namePlace n r c = rowPlace n r + (c - 1) * 2
+
+abbrev pub yieldPlace : ℕ → ℕ → ℕ
+yieldPlace n r = 4 + n * (n + n) + (r - 1) * 2
+
+abbrev pub orderPlace : ℕ → ℕ → ℕ
+orderPlace n r = 4 + n * (n + n) + n * 2 + (r - 1)
+
+-- what stands there
+abbrev pub currentAt : List ℕ → ℕ
+currentAt s = word s 2
+
+abbrev pub partnerAt : List ℕ → ℕ → ℕ → ℕ → ℕ
+partnerAt s n r c = getD s (namePlace n r c) 0
+
+abbrev pub labelAt : List ℕ → ℕ → ℕ → ℕ → ℕ
+labelAt s n r c = getD s (namePlace n r c + 1) 0
+
+abbrev pub yieldAt : List ℕ → ℕ → ℕ → ℕ
+yieldAt s n r = word s (yieldPlace n r)
+
+abbrev pub orderAt : List ℕ → ℕ → ℕ → ℕ
+orderAt s n r = getD s (orderPlace n r) 0
+
+-- order mark (r, t)
+unfoldable pub markAt : List ℕ → ℕ → ℕ → ℕ → Bool
+markAt s n r t = has (orderAt s n r) t
+
+-- "A **name** is either none, or a partner with a label": two bytes as a name
+unfoldable pub nameFrom : ℕ → ℕ → Name
+nameFrom partner label = cond (eqb partner 0) Never (With (record { partner = partner; label = label }))
+
+unfoldable pub nameAt : List ℕ → ℕ → ℕ → ℕ → Name
+nameAt s n r c = nameFrom (partnerAt s n r c) (labelAt s n r c)
+
+-- the own row has a name for stall r
+unfoldable pub heardAt : List ℕ → ℕ → ℕ → ℕ → Bool
+heardAt s n own r = not (eqb (partnerAt s n own r) 0)

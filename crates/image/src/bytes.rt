@@ -1,0 +1,77 @@
+// Bytes of an image read as numbers, and the yields among them.
+ghost use mathlib.Core.Path.{_≡_};
+ghost use Prim.Native.Nat.{_+_, _-_, _*_, _<_, _≤_};
+ghost use mathlib.Core.Bool.{_&&_, not};
+ghost use lib.Dec.{leb, ltb};
+ghost use lib.ListN.{length};
+ghost use Rattle.image.specs.Stalls.{some};
+ghost use Rattle.image.specs.Layout.{largest, word, yieldLimit, rowPlace};
+ghost use Rattle.image.specs.Frame.{Framed};
+ghost use Rattle.image.specs.Check.{badStall, badYields};
+
+pub fn wide(b: u8) -> usize
+    ensures { λ r. ⌜ (r ≡ b) × (r < 256) ⌝ }
+{
+    b as usize
+}
+
+// The two bytes at a place as a number, high byte first.
+pub(crate) fn word_at(image: &[u8], at: usize) -> usize
+    requires { ⌜ at + 1 < length (now image) ⌝ }
+    ensures { λ r. ⌜ r ≡ word (now (image .entry)) at ⌝ }
+{
+    wide(image[at]) * 256 + wide(image[at + 1])
+}
+
+// Some of n yields in a row is over the limit.
+pub(crate) fn over_yields(image: &[u8], n: usize, at: usize) -> bool
+    requires { ⌜ at + n * 2 ≤ length (now image) ⌝ }
+    ensures { λ r. ⌜ r ≡ some n (λ s. ltb yieldLimit (word (now (image .entry)) (at + (s - 1) * 2))) ⌝ }
+{
+    let mut bad = false;
+    let mut place = at;
+    let mut s = 1usize;
+    while s <= n {
+        bad = (999 < word_at(image, place)) | bad;
+        place += 2;
+        s += 1;
+    }
+    bad
+}
+
+// Where the row of stall r starts in an image of n stalls.
+pub fn row_place(n: u8, r: u8) -> usize
+    ensures { λ p. ⌜ p ≡ rowPlace n r ⌝ }
+{
+    let step = wide(n) + wide(n);
+    let mut place = 4usize;
+    let mut s = 1u8;
+    while s < r {
+        place += step;
+        s += 1;
+    }
+    place
+}
+
+// Check 4.
+pub(crate) fn bad_yields(image: &[u8], n: u8, own: u8) -> bool
+    requires { ⌜ Framed (now image) n own ⌝ }
+    ensures { λ b. ⌜ b ≡ badYields (now (image .entry)) n ⌝ }
+{
+    let m = wide(n);
+    (999 < word_at(image, 2)) | over_yields(image, m, image.len() - (m + m + m))
+}
+
+// Check 3.
+pub(crate) fn bad_stall(n: u8, own: u8) -> bool
+    ensures { λ b. ⌜ b ≡ badStall n own ⌝ }
+{
+    !((1 <= own) & (own <= n))
+}
+
+// Check 1 of an image that is not empty.
+pub(crate) fn bad_count(n: u8) -> bool
+    ensures { λ b. ⌜ b ≡ not (leb 2 n && leb n largest) ⌝ }
+{
+    !((2 <= n) & (n <= 8))
+}

@@ -1,0 +1,127 @@
+// One table as bytes: its forms in the code, its lengths, and its check.
+ghost use mathlib.Core.Path.{_≡_};
+ghost use mathlib.Core.List.{_∷_};
+ghost use lib.ListN.{replicate};
+ghost use Rattle.image.specs.Layout.{labelLimit, lengthOf, nameFrom};
+ghost use Rattle.image.specs.Frame.{Sized};
+ghost use Rattle.image.specs.Check.{checkBody, checked, numberOf};
+
+mod bytes;
+mod marks;
+mod names;
+
+// The meeting with a partner that has a label.
+pub struct Meet {
+    pub partner: u8,
+    pub label: u8,
+}
+
+// A name is either none, or a partner with a label.
+pub enum Name {
+    Never,
+    With(Meet),
+}
+
+// What an image begins with.
+pub struct Header {
+    pub n: u8,
+    pub stall: u8,
+}
+
+// The answer of a check: the header, or the first number that applies.
+pub enum Checked {
+    Good(Header),
+    Refused(u32),
+}
+
+// The table of one head by value: its image, then zeros.
+pub struct Head {
+    pub image: [u8; 156],
+}
+
+// Image lengths by the number of stalls.
+const LENGTHS: [usize; 9] = [0, 0, 18, 31, 48, 69, 94, 123, 156];
+
+impl Head {
+    pub const YIELD_LIMIT: u16 = 999;
+
+    pub fn label_limit(n: u8) -> usize
+        ensures { λ r. ⌜ r ≡ labelLimit n ⌝ }
+    {
+        4 * (n as usize)
+    }
+
+    pub fn fresh(n: u8, stall: u8) -> Head
+        ensures { λ r. ⌜ r .image ≡ n ∷ stall ∷ replicate 154 0 ⌝ }
+    {
+        let mut image = [0u8; 156];
+        image[0] = n;
+        image[1] = stall;
+        Head { image }
+    }
+}
+
+// The length of an image of n stalls, 0 where n is not 2 to 8.
+pub fn length_of(n: usize) -> usize
+    ensures { λ r. ⌜ r ≡ lengthOf n ⌝ }
+{
+    if n <= 8 { LENGTHS[n] } else { 0 }
+}
+
+// Two bytes as a name.
+pub fn name_from(partner: u8, label: u8) -> Name
+    ensures { λ r. ⌜ r ≡ nameFrom partner label ⌝ }
+{
+    if partner == 0 {
+        Name::Never
+    } else {
+        Name::With(Meet { partner, label })
+    }
+}
+
+// The check of a table: the first number that applies.
+pub fn check(image: &[u8]) -> Checked
+    ensures { λ r. ⌜ r ≡ checked (now (image .entry)) ⌝ }
+{
+    if image.len() == 0 {
+        return Checked::Refused(1);
+    }
+    let n = image[0];
+    if bytes::bad_count(n) {
+        return Checked::Refused(1);
+    }
+    if image.len() != length_of(bytes::wide(n)) {
+        return Checked::Refused(2);
+    }
+    check_body(image, n, image[1])
+}
+
+// The checks 3 to 6 of an image of the right length.
+fn check_body(image: &[u8], n: u8, own: u8) -> Checked
+    requires { ⌜ Sized (now image) n ⌝ }
+    ensures { λ r. ⌜ r ≡ checkBody (now (image .entry)) n own ⌝ }
+{
+    if bytes::bad_stall(n, own) {
+        return Checked::Refused(3);
+    }
+    if bytes::bad_yields(image, n, own) {
+        return Checked::Refused(4);
+    }
+    if names::bad_names(image, n, own) {
+        return Checked::Refused(5);
+    }
+    if marks::bad_marks(image, n, own) {
+        return Checked::Refused(6);
+    }
+    Checked::Good(Header { n, stall: own })
+}
+
+// The number of an answer: 0 for a good image.
+pub fn number_of(c: Checked) -> u32
+    ensures { λ r. ⌜ r ≡ numberOf c ⌝ }
+{
+    match c {
+        Checked::Good(_) => 0,
+        Checked::Refused(number) => number,
+    }
+}
