@@ -1,0 +1,12 @@
+# Sourced by test and bench. Enters the repository root and sets: out, where build products go; lib,
+# the library to link (the proved one, or what WILBRYN_LIB names); compile, the C compiler and its
+# words.
+lib=${WILBRYN_LIB:+$(realpath "$WILBRYN_LIB")}
+cd "$(dirname "${BASH_SOURCE[0]}")/.."
+out=$PWD/target/firmware
+mkdir -p "$out"
+if [ -z "$lib" ]; then
+    rt staticlib head
+    lib=$PWD/target/staticlib/libhead.a
+fi
+compile=(cc -std=c11 -O2 -g -Wall -Wextra -Werror)
