@@ -133,8 +133,8 @@ impl History {
     }
 }
 
-/// Unbounded counters for lists that are too long for pasts: of each head and stall the place of the
-/// latest in the list, from 1; 0 is none.
+/// Unbounded counters for lists that are too long for pasts: of each head and stall the place of
+/// the latest in the list, from 1; 0 is none.
 pub struct Counters {
     pub latest: [[usize; 9]; 9],
     current: [u16; 9],
