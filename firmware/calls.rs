@@ -1,0 +1,140 @@
+//! The calls on one image, each made in the library and in the model. The first difference ends the
+//! run. Every run is lent in a heap block of exactly its length.
+
+use crate::model;
+use std::collections::BTreeMap;
+use std::process::exit;
+
+extern "C" {
+    fn wilbryn_fresh(image: *mut u8, len: usize, n: u8, stall: u8) -> u32;
+    fn wilbryn_check(image: *const u8, len: usize) -> u32;
+    fn wilbryn_milking(image: *mut u8, len: usize, new: u16) -> u32;
+    fn wilbryn_heard(image: *const u8, len: usize, records: *mut u8, records_len: usize) -> u32;
+}
+
+pub type Run = Box<[u8]>;
+
+/// What a call leaves: its answer, and each run that it was lent.
+#[derive(PartialEq)]
+pub struct Outcome {
+    pub answer: u32,
+    pub runs: Vec<Run>,
+}
+
+/// How many calls were compared, by kind and by the number of the refusal (0: none).
+#[derive(Default)]
+pub struct Counts(BTreeMap<&'static str, [u64; 10]>);
+
+impl Counts {
+    pub fn add(&mut self, kind: &'static str, answer: u32) {
+        let number = if answer < 256 { 0 } else { answer - 256 };
+        self.add_number(kind, number);
+    }
+
+    fn add_number(&mut self, kind: &'static str, number: u32) {
+        self.0.entry(kind).or_default()[number as usize] += 1;
+    }
+
+    pub fn of(&self, kind: &str, number: usize) -> u64 {
+        self.0.get(kind).map_or(0, |by_number| by_number[number])
+    }
+
+    pub fn print(&self) {
+        print!("  {:<22}{:>9}{:>9}", "calls", "all", "taken");
+        (1..10).for_each(|number| print!("{:>8}", format!("no. {number}")));
+        println!();
+        for (kind, by_number) in &self.0 {
+            print!("  {kind:<22}{:>9}{:>9}", by_number.iter().sum::<u64>(), by_number[0]);
+            by_number[1..].iter().for_each(|count| print!("{count:>8}"));
+            println!();
+        }
+    }
+
+    /// Ends the run if one of these numbers never came up.
+    pub fn require(&self, kind: &str, numbers: impl IntoIterator<Item = usize>) {
+        for number in numbers {
+            if self.of(kind, number) == 0 {
+                println!("{kind}: number {number} never came up");
+                exit(1);
+            }
+        }
+    }
+}
+
+/// What part of the calls to make: all, or one in K when the program is given the argument K.
+pub fn share_of(all: usize) -> usize {
+    let divisor = std::env::args().nth(1).map_or(1, |k| k.parse().expect("a whole number"));
+    all / divisor
+}
+
+pub fn hex(bytes: &[u8]) -> String {
+    bytes.iter().map(|byte| format!("{byte:02x}")).collect()
+}
+
+fn show(who: &str, outcome: &Outcome) {
+    println!("  {who} answers {}", outcome.answer);
+    outcome.runs.iter().for_each(|run| println!("    {}", hex(run)));
+}
+
+/// Ends the run unless both sides left the same.
+pub fn agree(call: &str, lent: &[&[u8]], library: &Outcome, model: &Outcome) {
+    if library == model {
+        return;
+    }
+    println!("{call}: library and model differ\n  lent");
+    lent.iter().for_each(|run| println!("    {}", hex(run)));
+    show("library", library);
+    show("model", model);
+    exit(1);
+}
+
+pub fn fresh(counts: &mut Counts, before: &[u8], n: u8, stall: u8) -> Run {
+    let (mut image, mut modelled) = (Run::from(before), Run::from(before));
+    let answer = unsafe { wilbryn_fresh(image.as_mut_ptr(), image.len(), n, stall) };
+    let library = Outcome { answer, runs: vec![image] };
+    let answer = model::fresh(&mut modelled, n, stall);
+    let model = Outcome { answer, runs: vec![modelled] };
+    agree(&format!("fresh {n} {stall}"), &[before], &library, &model);
+    counts.add_number("fresh", answer);
+    library.runs.into_iter().next().unwrap()
+}
+
+pub fn check(counts: &mut Counts, image: &[u8]) -> u32 {
+    let lent = Run::from(image);
+    let answer = unsafe { wilbryn_check(lent.as_ptr(), lent.len()) };
+    let library = Outcome { answer, runs: vec![lent] };
+    let model = Outcome { answer: model::check(image), runs: vec![Run::from(image)] };
+    agree("check", &[image], &library, &model);
+    counts.add_number("check", answer);
+    answer
+}
+
+pub fn milking(counts: &mut Counts, image: &mut [u8], new: u16) -> u32 {
+    let (mut lent, mut modelled) = (Run::from(&*image), Run::from(&*image));
+    let answer = unsafe { wilbryn_milking(lent.as_mut_ptr(), lent.len(), new) };
+    let library = Outcome { answer, runs: vec![lent] };
+    let model = Outcome { answer: model::milking(&mut modelled, new), runs: vec![modelled] };
+    agree(&format!("milking {new}"), &[image], &library, &model);
+    counts.add_number("milking", answer);
+    image.copy_from_slice(&library.runs[0]);
+    answer
+}
+
+/// The order of the records is open, so the library's are put by rising stall before comparing.
+pub fn heard(counts: &mut Counts, image: &[u8], records: &[u8]) {
+    let (lent, mut written, mut modelled) =
+        (Run::from(image), Run::from(records), Run::from(records));
+    let answer =
+        unsafe { wilbryn_heard(lent.as_ptr(), lent.len(), written.as_mut_ptr(), written.len()) };
+    if answer < 256 {
+        let mut list: Vec<&[u8]> = written.chunks(3).take(answer as usize).collect();
+        list.sort();
+        let sorted = list.concat();
+        written[..sorted.len()].copy_from_slice(&sorted);
+    }
+    let library = Outcome { answer, runs: vec![lent, written] };
+    let answer = model::heard(image, &mut modelled);
+    let model = Outcome { answer, runs: vec![Run::from(image), modelled] };
+    agree("heard", &[image, records], &library, &model);
+    counts.add("heard", answer);
+}

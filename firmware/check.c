@@ -1,0 +1,395 @@
+/* The examples of document 01, on the functions of wilbryn.h. Every run is lent in a heap block of
+   exactly its length. WITH_MEETING adds the meetings. The first difference ends the run. */
+#include "wilbryn.h"
+
+#include <stdio.h>
+#include <stdlib.h>
+#include <string.h>
+
+struct run {
+    uint8_t *bytes;
+    size_t len;
+};
+
+enum call { FRESH, CHECK, MILKING, HEARD, MEETING, CALLS };
+
+static const char *const names[CALLS] = {"fresh", "check", "milking", "heard", "meeting"};
+static unsigned counts[CALLS];
+static const char *doing = "";
+
+static void show(const char *what, struct run run) {
+    printf("  %s (%zu bytes):", what, run.len);
+    for (size_t i = 0; i < run.len; i++) printf(" %02x", run.bytes[i]);
+    printf("\n");
+}
+
+static struct run lend(size_t len) {
+    struct run run = {malloc(len), len};
+    if (run.bytes == NULL) {
+        printf("no block of %zu bytes\n", len);
+        exit(1);
+    }
+    memset(run.bytes, 0xee, len);
+    return run;
+}
+
+static struct run copy(struct run from) {
+    struct run run = lend(from.len);
+    memcpy(run.bytes, from.bytes, from.len);
+    return run;
+}
+
+/* The bytes that pairs of digits stand for; blanks between pairs are skipped. */
+static struct run from_hex(const char *hex) {
+    uint8_t bytes[512];
+    struct run run = {bytes, 0};
+    unsigned byte;
+    for (; *hex != '\0'; hex += *hex == ' ' ? 1 : 2) {
+        if (*hex != ' ' && sscanf(hex, "%2x", &byte) == 1) bytes[run.len++] = (uint8_t)byte;
+    }
+    return copy(run);
+}
+
+static void give_back(struct run run) { free(run.bytes); }
+
+/* Ends the run unless a call answered as wanted; before: the runs as they were lent. */
+static void expect(enum call call, uint32_t wanted, uint32_t got, const struct run *before,
+                   int runs) {
+    counts[call]++;
+    if (wanted == got) return;
+    printf("%s: %s answers %u, not %u\n", doing, names[call], got, wanted);
+    for (int i = 0; i < runs; i++) show("lent", before[i]);
+    exit(1);
+}
+
+static void expect_bytes(const char *what, struct run wanted, struct run got) {
+    if (wanted.len == got.len && memcmp(wanted.bytes, got.bytes, got.len) == 0) return;
+    printf("%s: %s differs\n", doing, what);
+    show("wanted", wanted);
+    show("got", got);
+    exit(1);
+}
+
+static void expect_hex(const char *what, const char *wanted, struct run got) {
+    struct run bytes = from_hex(wanted);
+    expect_bytes(what, bytes, got);
+    give_back(bytes);
+}
+
+/* The calls, each with the answer that it must give and what it must leave. */
+
+static void check(uint32_t wanted, struct run image) {
+    struct run before = copy(image);
+    expect(CHECK, wanted, wilbryn_check(image.bytes, image.len), &before, 1);
+    expect_bytes("image", before, image);
+    give_back(before);
+}
+
+static void fresh(uint32_t wanted, struct run image, uint8_t n, uint8_t stall) {
+    struct run before = copy(image), after = copy(image);
+    if (wanted == 0) {
+        memset(after.bytes, 0, after.len);
+        after.bytes[0] = n;
+        after.bytes[1] = stall;
+    }
+    expect(FRESH, wanted, wilbryn_fresh(image.bytes, image.len, n, stall), &before, 1);
+    expect_bytes("image", after, image);
+    give_back(before);
+    give_back(after);
+}
+
+static void milking(uint32_t wanted, struct run image, uint16_t yield) {
+    struct run before = copy(image), after = copy(image);
+    if (wanted == 0) {
+        after.bytes[2] = (uint8_t)(yield / 256);
+        after.bytes[3] = (uint8_t)(yield % 256);
+    }
+    expect(MILKING, wanted, wilbryn_milking(image.bytes, image.len, yield), &before, 1);
+    expect_bytes("image", after, image);
+    give_back(before);
+    give_back(after);
+}
+
+static void heard(uint32_t wanted, struct run image, struct run records) {
+    struct run before[] = {copy(image), copy(records)};
+    uint32_t got = wilbryn_heard(image.bytes, image.len, records.bytes, records.len);
+    expect(HEARD, wanted, got, before, 2);
+    expect_bytes("image", before[0], image);
+    if (wanted > 8) expect_bytes("records", before[1], records);
+    give_back(before[0]);
+    give_back(before[1]);
+}
+
+#ifdef WITH_MEETING
+enum { ANY_LABEL = 255 };
+
+static void meeting(uint32_t wanted, struct run first, struct run second, struct run verdicts) {
+    struct run runs[] = {first, second, verdicts}, before[3];
+    for (int i = 0; i < 3; i++) before[i] = copy(runs[i]);
+    uint32_t got = wilbryn_meeting(first.bytes, first.len, second.bytes, second.len,
+                                   verdicts.bytes, verdicts.len);
+    if (wanted == ANY_LABEL && got <= 4u * first.bytes[0]) wanted = got;
+    expect(MEETING, wanted, got, before, 3);
+    for (int i = 0; i < 3; i++) {
+        if (wanted >= 256) expect_bytes("a lent run", before[i], runs[i]);
+        give_back(before[i]);
+    }
+}
+
+static void meeting_refused(uint32_t number, struct run first, struct run second, size_t buffer) {
+    struct run verdicts = lend(buffer);
+    meeting(256 + number, first, second, verdicts);
+    give_back(verdicts);
+}
+#endif
+
+/* The refusals 1 to 6. The first of each number is document 01's own example; 0 is accepted. */
+static const struct {
+    const char *what, *image;
+    uint32_t number;
+} images[] = {
+    {"N = 1", "01", 1},
+    {"empty", "", 1},
+    {"N = 9", "09", 1},
+    {"too short", "0201", 2},
+    {"too long", "0201 0000 00000000 00000000 00000000 0000 00", 2},
+    {"own stall 3", "0203 0000 00000000 00000000 00000000 0000", 3},
+    {"own stall 0", "0200 0000 00000000 00000000 00000000 0000", 3},
+    {"current yield 1000", "0201 03e8 00000000 00000000 00000000 0000", 4},
+    {"current yield 999", "0201 03e7 00000000 00000000 00000000 0000", 0},
+    {"stall yield 1000", "0201 0000 02000100 02000100 000003e8 0303", 4},
+    {"stall yield 999", "0201 0000 02000100 02000100 000003e7 0303", 0},
+    {"partner is the column", "0201 0000 01000000 00000000 00000000 0000", 5},
+    {"label without partner", "0201 0000 00010000 00000000 00000000 0000", 5},
+    {"partner above N", "0201 0000 03000100 02000100 00000000 0303", 5},
+    {"row 2, column 2 not the own", "0201 0000 02000100 02000101 00000000 0303", 5},
+    {"name in a row never heard", "0201 0000 02000000 02000000 00000000 0100", 5},
+    {"own row without own stall", "0201 0000 00000100 02000100 00000000 0003", 5},
+    {"yield never heard", "0201 0000 00000000 00000000 00000001 0000", 5},
+    {"mark never heard", "0201 0000 00000000 00000000 00000000 0001", 6},
+    {"mark above N", "0201 0000 02000100 02000100 00000000 0703", 6},
+    {"heard without (r, r)", "0201 0000 02000100 02000100 00000000 0301", 6},
+    {"heard without (r, own)", "0201 0000 02000100 02000100 00000000 0302", 6},
+    {"heard with the least marks", "0201 0000 02000100 02000100 00000000 0103", 0},
+    {"N = 3, label 12", "0301 0000 020c010c0000 020c010c0000 000000000000 000000000000 030300", 0},
+    {"N = 3, label 13", "0301 0000 020d010d0000 020d010d0000 000000000000 000000000000 030300", 5},
+};
+
+enum { IMAGES = sizeof images / sizeof images[0] };
+
+static void try_images(void) {
+    for (int i = 0; i < IMAGES; i++) {
+        doing = images[i].what;
+        uint32_t number = images[i].number;
+        struct run image = from_hex(images[i].image), records = lend(2);
+        check(number, image);
+        heard(256 + (number == 0 ? 8 : number), image, records);
+        milking(number, image, 5);
+        give_back(records);
+        give_back(image);
+    }
+}
+
+static void try_fresh(void) {
+    for (uint8_t n = 2; n <= 8; n++) {
+        doing = "a fresh image";
+        struct run image = lend(WILBRYN_IMAGE_LENGTH(n)), records = lend(3 * n);
+        fresh(3, image, n, 0);
+        fresh(3, image, n, n + 1);
+        for (uint8_t stall = 1; stall <= n; stall++) {
+            fresh(0, image, n, stall);
+            check(0, image);
+            heard(0, image, records);
+        }
+        give_back(records);
+        give_back(image);
+    }
+    doing = "the order 1, 2, 3 of a fresh image";
+    struct run image = from_hex("eeee");
+    fresh(1, image, 1, 0);
+    fresh(1, image, 9, 0);
+    fresh(2, image, 2, 0);
+    give_back(image);
+}
+
+static void try_milking(void) {
+    doing = "milking";
+    struct run image = lend(18);
+    fresh(0, image, 2, 1);
+    milking(0, image, 18);
+    expect_hex("image", "0201 0012 00000000 00000000 00000000 0000", image);
+    milking(0, image, 999);
+    milking(4, image, 1000);
+    milking(4, image, 65535);
+    milking(0, image, 0);
+    give_back(image);
+}
+
+static const char *listing_image =
+    "0303 0000 020001000000 020003000200 020003000200 001200000000 070606";
+
+static void try_heard(void) {
+    doing = "the heard list of the listing";
+    struct run image = from_hex(listing_image), records = lend(9);
+    struct run yields = from_hex("0012 0000 0000");
+    heard(3, image, records);
+    int seen[4] = {0};
+    for (int i = 0; i < 3; i++) {
+        struct run record = {records.bytes + 3 * i + 1, 2};
+        uint8_t stall = record.bytes[-1];
+        if (stall < 1 || stall > 3 || seen[stall]++ > 0) {
+            printf("%s: record %d is not of a stall of its own\n", doing, i);
+            show("records", records);
+            exit(1);
+        }
+        expect_bytes("yield", (struct run){yields.bytes + 2 * (stall - 1), 2}, record);
+    }
+    give_back(yields);
+    give_back(records);
+    records = lend(8);
+    heard(256 + 8, image, records);
+    give_back(records);
+    give_back(image);
+}
+
+#ifdef WITH_MEETING
+struct parlour {
+    uint8_t n;
+    struct run images[9]; /* from 1 */
+};
+
+static struct parlour open(uint8_t n) {
+    struct parlour parlour = {.n = n};
+    for (uint8_t stall = 1; stall <= n; stall++) {
+        parlour.images[stall] = lend(WILBRYN_IMAGE_LENGTH(n));
+        fresh(0, parlour.images[stall], n, stall);
+    }
+    return parlour;
+}
+
+static void shut(struct parlour parlour) {
+    for (uint8_t stall = 1; stall <= parlour.n; stall++) give_back(parlour.images[stall]);
+}
+
+/* The lists to try: pairs of stalls, the label of each meeting (? if the document names none), and
+   the verdicts of the last. */
+static const struct {
+    uint8_t n;
+    const char *meetings, *labels, *verdicts;
+} lists[] = {
+    {2, "12 12 12 12", "0101", "00"},
+    {3, "12 13 12 12 12", "00121", "000"},
+    {5, "12 13 14 45 25 24 35", "???????", "22022"},
+    {5, "12 13 14 45 25 24 12", "???????", "02022"},
+    {4, "12 13 24 34", "????", "1212"},
+    {2, "12", "0", "00"},
+    {3, "31", "0", "000"},
+    {4, "24", "0", "0000"},
+    {5, "51", "0", "00000"},
+    {6, "36", "0", "000000"},
+    {7, "72", "0", "0000000"},
+    {8, "87", "0", "00000000"},
+    {3, "12 23", "00", "110"},
+};
+
+enum { LISTS = sizeof lists / sizeof lists[0] };
+
+static void try_lists(void) {
+    for (int i = 0; i < LISTS; i++) {
+        doing = lists[i].meetings;
+        struct parlour parlour = open(lists[i].n);
+        struct run verdicts = lend(parlour.n), wanted = lend(parlour.n);
+        size_t count = strlen(lists[i].labels);
+        for (size_t m = 0; m < count; m++) {
+            struct run first = parlour.images[lists[i].meetings[3 * m] - '0'];
+            struct run second = parlour.images[lists[i].meetings[3 * m + 1] - '0'];
+            char digit = lists[i].labels[m];
+            meeting(digit == '?' ? ANY_LABEL : (uint32_t)(digit - '0'), first, second, verdicts);
+        }
+        for (size_t r = 0; r < parlour.n; r++) {
+            wanted.bytes[r] = (uint8_t)(lists[i].verdicts[r] - '0');
+        }
+        expect_bytes("the last verdicts", wanted, verdicts);
+        give_back(wanted);
+        give_back(verdicts);
+        shut(parlour);
+    }
+}
+
+static void try_listing(void) {
+    doing = "the listing";
+    struct parlour parlour = open(3);
+    struct run *images = parlour.images, verdicts = lend(3);
+    milking(0, images[1], 18);
+    meeting(0, images[1], images[2], verdicts);
+    expect_hex("verdicts", "000000", verdicts);
+    meeting(0, images[2], images[3], verdicts);
+    expect_hex("verdicts", "010100", verdicts);
+    expect_hex("image 3", listing_image, images[3]);
+    give_back(verdicts);
+    shut(parlour);
+}
+
+static void try_images_in_meetings(void) {
+    struct run good = from_hex("0202 0000 00000000 00000000 00000000 0000");
+    struct run one = from_hex("01"), marks = from_hex("0201 0000 00000000 00000000 00000000 0001");
+    for (int i = 0; i < IMAGES; i++) {
+        doing = images[i].what;
+        uint32_t number = images[i].number;
+        struct run image = from_hex(images[i].image);
+        if (number != 0) {
+            meeting_refused(number, image, good, 2);
+            meeting_refused(number, good, image, 0);
+            meeting_refused(number, image, one, 2);
+            meeting_refused(6, marks, image, 2);
+        }
+        give_back(image);
+    }
+    give_back(marks);
+    give_back(one);
+    give_back(good);
+}
+
+static void try_pairs(void) {
+    struct run fresh1 = from_hex("0201 0000 00000000 00000000 00000000 0000");
+    struct run fresh2 = from_hex("0202 0000 00000000 00000000 00000000 0000");
+    struct run again1 = copy(fresh1);
+    struct run of3 = lend(WILBRYN_IMAGE_LENGTH(3));
+    fresh(0, of3, 3, 2);
+    struct run odd1 = from_hex("0201 0000 02000100 02000100 00000000 0303");
+    struct run odd2 = from_hex("0202 0000 02010101 02010101 00000000 0303");
+    doing = "one stall";
+    meeting_refused(7, fresh1, again1, 2);
+    meeting_refused(7, fresh1, again1, 1);
+    doing = "different N";
+    meeting_refused(7, fresh1, of3, 2);
+    meeting_refused(7, of3, fresh1, 3);
+    doing = "verdict buffer";
+    for (size_t buffer = 0; buffer < 20; buffer++) {
+        if (buffer != 2) meeting_refused(8, fresh1, fresh2, buffer);
+    }
+    meeting_refused(8, odd1, odd2, 1);
+    doing = "images that do not belong together";
+    meeting_refused(9, odd1, odd2, 2);
+    meeting_refused(9, odd2, odd1, 2);
+    struct run all[] = {fresh1, fresh2, again1, of3, odd1, odd2};
+    for (int i = 0; i < 6; i++) give_back(all[i]);
+}
+#endif
+
+int main(void) {
+    try_images();
+    try_fresh();
+    try_milking();
+    try_heard();
+#ifdef WITH_MEETING
+    try_lists();
+    try_listing();
+    try_images_in_meetings();
+    try_pairs();
+#endif
+    printf("check.c: as document 01 says:");
+    for (int call = 0; call < CALLS; call++) printf(" %s %u", names[call], counts[call]);
+    printf("\n");
+    return 0;
+}

@@ -1,0 +1,87 @@
+//! Compares the library's fresh, check, milking and heard with the model, on images of every kind.
+
+mod calls;
+#[allow(dead_code)]
+mod images;
+#[allow(dead_code)]
+mod model;
+
+use calls::{share_of, Counts};
+use images::Random;
+
+const SEED: u64 = 0x5eed_0001;
+
+/// An image of some kind: fresh, accepted, damaged, or any bytes at all.
+fn image(random: &mut Random) -> Vec<u8> {
+    let n = random.size();
+    let stall = random.stall(n);
+    let mut image = match random.below(8) {
+        0 => model::Table::fresh(n, stall).to_bytes(),
+        _ => images::accepted(random, n, stall).to_bytes(),
+    };
+    match random.below(10) {
+        0..=3 => (),
+        4..=8 => images::damage(random, &mut image),
+        _ => image = any_bytes(random),
+    }
+    image
+}
+
+/// Bytes that no head wrote; with a good start and length often enough.
+fn any_bytes(random: &mut Random) -> Vec<u8> {
+    let n = random.pick(&[0, 1, 2, 3, 4, 5, 6, 7, 8, 9, 255]);
+    let len = if random.percent(60) { model::length(n) } else { random.below(200) };
+    let mut image = random.bytes(len);
+    for (at, byte) in image.iter_mut().enumerate() {
+        match at {
+            0 => *byte = n as u8,
+            1 => *byte = random.below(10) as u8,
+            _ if random.percent(90) => *byte = 0,
+            _ => (),
+        }
+    }
+    image
+}
+
+fn buffer_len(random: &mut Random, right: usize) -> usize {
+    match random.below(12) {
+        0 => 0,
+        1 => right.saturating_sub(1),
+        2 => right + 1,
+        3 => random.below(300),
+        _ => right,
+    }
+}
+
+/// One call of fresh, with every part of it right or wrong.
+fn fresh(random: &mut Random, counts: &mut Counts) {
+    let n = if random.percent(80) { random.size() } else { random.byte() as usize };
+    let stall = if random.percent(70) { random.stall(n.max(1)) } else { random.below(12) };
+    let len = buffer_len(random, model::length(n.min(9)));
+    let before = random.bytes(len);
+    calls::fresh(counts, &before, n as u8, stall as u8);
+}
+
+fn main() {
+    println!("compare: seed {SEED:#x}");
+    let mut random = Random(SEED);
+    let mut counts = Counts::default();
+    for _ in 0..share_of(100_000) {
+        let mut image = image(&mut random);
+        calls::check(&mut counts, &image);
+        let n = image.first().map_or(2, |&n| n as usize);
+        let len = buffer_len(&mut random, 3 * n);
+        let records = random.bytes(len);
+        calls::heard(&mut counts, &image, &records);
+        calls::milking(&mut counts, &mut image, random.any_yield());
+        fresh(&mut random, &mut counts);
+    }
+    for new in (0..=u16::MAX).filter(|new| share_of(65_536) == 65_536 || new % 997 < 3) {
+        calls::milking(&mut counts, &mut model::Table::fresh(2, 1).to_bytes(), new);
+    }
+    counts.print();
+    counts.require("fresh", 0..=3);
+    counts.require("check", 0..=6);
+    counts.require("milking", 0..=6);
+    counts.require("heard", (0..=6).chain([8]));
+}

@@ -1,0 +1,315 @@
+//! Document 01 in plain Rust: the other side of every comparison. Stalls, rows and columns count
+//! from 1 as they do there, so index 0 of each array is unused.
+
+use std::ops::RangeInclusive;
+
+const YIELD_LIMIT: u16 = 999;
+
+/// A meeting as a column names it: the other stall and the label.
+#[derive(Clone, Copy, PartialEq, Eq)]
+pub struct Name {
+    pub partner: u8,
+    pub label: u8,
+}
+
+pub const NONE: Name = Name { partner: 0, label: 0 };
+
+/// A name read with its column: lower stall, higher stall, label.
+pub type Meeting = (usize, usize, u8);
+
+pub type Row = [Name; 9];
+
+/// An image taken apart, good or bad.
+#[derive(Clone)]
+pub struct Table {
+    pub n: usize,
+    pub stall: usize,
+    pub current: u16,
+    pub rows: [Row; 9],
+    pub yields: [u16; 9],
+    pub order: [u8; 9],
+}
+
+pub fn length(n: usize) -> usize {
+    2 * n * n + 3 * n + 4
+}
+
+pub fn label_limit(n: usize) -> usize {
+    4 * n
+}
+
+impl Table {
+    pub fn fresh(n: usize, stall: usize) -> Table {
+        Table { n, stall, current: 0, rows: [[NONE; 9]; 9], yields: [0; 9], order: [0; 9] }
+    }
+
+    /// Takes an image of the right length apart.
+    fn from_bytes(image: &[u8]) -> Table {
+        let word = |at: usize| u16::from_be_bytes([image[at], image[at + 1]]);
+        let mut table = Table::fresh(image[0] as usize, image[1] as usize);
+        let n = table.n;
+        let (rows, yields, order) = (4, 4 + 2 * n * n, 4 + 2 * n * n + 2 * n);
+        table.current = word(2);
+        for s in 1..=n {
+            for r in 1..=n {
+                let at = rows + 2 * n * (s - 1) + 2 * (r - 1);
+                table.rows[s][r] = Name { partner: image[at], label: image[at + 1] };
+            }
+            table.yields[s] = word(yields + 2 * (s - 1));
+            table.order[s] = image[order + s - 1];
+        }
+        table
+    }
+
+    pub fn to_bytes(&self) -> Vec<u8> {
+        let mut image = vec![self.n as u8, self.stall as u8];
+        image.extend(self.current.to_be_bytes());
+        for s in self.stalls() {
+            for r in self.stalls() {
+                image.extend([self.rows[s][r].partner, self.rows[s][r].label]);
+            }
+        }
+        for r in self.stalls() {
+            image.extend(self.yields[r].to_be_bytes());
+        }
+        image.extend(&self.order[1..=self.n]);
+        image
+    }
+
+    pub fn stalls(&self) -> RangeInclusive<usize> {
+        1..=self.n
+    }
+
+    pub fn own_row(&self) -> &Row {
+        &self.rows[self.stall]
+    }
+
+    pub fn heard(&self, r: usize) -> bool {
+        self.own_row()[r] != NONE
+    }
+
+    pub fn mark(&self, r: usize, s: usize) -> bool {
+        self.order[r] >> (s - 1) & 1 == 1
+    }
+
+    pub fn set_mark(&mut self, r: usize, s: usize) {
+        self.order[r] |= 1 << (s - 1);
+    }
+
+    /// The meeting that row s names in column r.
+    pub fn named(&self, s: usize, r: usize) -> Option<Meeting> {
+        let Name { partner, label } = self.rows[s][r];
+        let partner = partner as usize;
+        (partner != 0).then_some((r.min(partner), r.max(partner), label))
+    }
+
+    fn bad_name_itself(&self, name: Name, column: usize) -> bool {
+        let partner = name.partner as usize;
+        partner == 0 && name.label != 0
+            || partner > self.n
+            || partner == column
+            || name.label as usize > label_limit(self.n)
+    }
+
+    fn bad_names(&self) -> bool {
+        self.stalls().any(|s| {
+            self.stalls().any(|r| self.bad_name_itself(self.rows[s][r], r))
+                || self.rows[s][s] != self.own_row()[s]
+                || !self.heard(s) && self.stalls().any(|r| self.rows[s][r] != NONE)
+                || !self.heard(s) && self.yields[s] != 0
+        })
+    }
+
+    fn bad_marks(&self) -> bool {
+        self.stalls().any(|r| {
+            (1..=8).any(|s| self.mark(r, s) && (s > self.n || !self.heard(r) || !self.heard(s)))
+                || self.heard(r) && !self.mark(r, r)
+                || self.heard(r) && !self.mark(r, self.stall)
+        })
+    }
+}
+
+/// The table of an image, or the first of the refusals 1 to 6 that applies.
+pub fn read(image: &[u8]) -> Result<Table, u32> {
+    let Some(&n) = image.first() else { return Err(1) };
+    if !(2..=8).contains(&n) {
+        return Err(1);
+    }
+    if image.len() != length(n as usize) {
+        return Err(2);
+    }
+    let table = Table::from_bytes(image);
+    if !table.stalls().contains(&table.stall) {
+        return Err(3);
+    }
+    if table.current > YIELD_LIMIT || table.stalls().any(|r| table.yields[r] > YIELD_LIMIT) {
+        return Err(4);
+    }
+    if table.bad_names() {
+        return Err(5);
+    }
+    if table.bad_marks() {
+        return Err(6);
+    }
+    Ok(table)
+}
+
+pub fn check(image: &[u8]) -> u32 {
+    read(image).err().unwrap_or(0)
+}
+
+pub fn fresh(image: &mut [u8], n: u8, stall: u8) -> u32 {
+    if !(2..=8).contains(&n) {
+        return 1;
+    }
+    if image.len() != length(n as usize) {
+        return 2;
+    }
+    if !(1..=n).contains(&stall) {
+        return 3;
+    }
+    image.copy_from_slice(&Table::fresh(n as usize, stall as usize).to_bytes());
+    0
+}
+
+pub fn milking(image: &mut [u8], new: u16) -> u32 {
+    match read(image) {
+        Err(number) => number,
+        Ok(_) if new > YIELD_LIMIT => 4,
+        Ok(table) => {
+            image.copy_from_slice(&Table { current: new, ..table }.to_bytes());
+            0
+        }
+    }
+}
+
+/// Writes the records by rising stall; the document leaves their order open.
+pub fn heard(image: &[u8], records: &mut [u8]) -> u32 {
+    let table = match read(image) {
+        Err(number) => return 256 + number,
+        Ok(table) => table,
+    };
+    if records.len() != 3 * table.n {
+        return 256 + 8;
+    }
+    records.fill(0);
+    let heard: Vec<usize> = table.stalls().filter(|&r| table.heard(r)).collect();
+    for (record, &r) in records.chunks_mut(3).zip(&heard) {
+        let [high, low] = table.yields[r].to_be_bytes();
+        record.copy_from_slice(&[r as u8, high, low]);
+    }
+    heard.len() as u32
+}
+
+pub fn meeting(first: &mut [u8], second: &mut [u8], verdicts: &mut [u8]) -> u32 {
+    match join(first, second, verdicts.len()) {
+        Err(number) => 256 + number,
+        Ok(joined) => {
+            first.copy_from_slice(&joined.first.to_bytes());
+            second.copy_from_slice(&joined.second.to_bytes());
+            verdicts.copy_from_slice(&joined.verdicts[1..=joined.first.n]);
+            joined.label as u32
+        }
+    }
+}
+
+/// What an accepted meeting leaves.
+struct Joined {
+    first: Table,
+    second: Table,
+    verdicts: [u8; 9],
+    label: u8,
+}
+
+fn join(first: &[u8], second: &[u8], buffer: usize) -> Result<Joined, u32> {
+    let first = read(first)?;
+    let second = read(second)?;
+    if first.n != second.n || first.stall == second.stall {
+        return Err(7);
+    }
+    if buffer != first.n {
+        return Err(8);
+    }
+    let mut verdicts = [0; 9];
+    for r in first.stalls() {
+        verdicts[r] = verdict(&first, &second, r)?;
+    }
+    let label = free_label(&first, &second);
+    let merged = merge(&first, &second, &verdicts, label);
+    Ok(Joined {
+        first: Table { stall: first.stall, current: first.current, ..merged.clone() },
+        second: Table { stall: second.stall, current: second.current, ..merged },
+        verdicts,
+        label,
+    })
+}
+
+/// Whether one's latest of r is known to the other.
+fn known(one: &Table, other: &Table, r: usize) -> bool {
+    let names_too = |meeting| other.stalls().any(|t| other.named(other.stall, t) == Some(meeting));
+    let common = |s| one.named(one.stall, s).is_some_and(names_too);
+    !one.heard(r) || one.stalls().any(|s| one.mark(r, s) && common(s))
+}
+
+fn verdict(first: &Table, second: &Table, r: usize) -> Result<u8, u32> {
+    match (known(first, second, r), known(second, first, r)) {
+        (true, false) => Ok(2),
+        (false, true) => Ok(1),
+        (true, true) if first.own_row()[r] == second.own_row()[r] => Ok(0),
+        _ => Err(9),
+    }
+}
+
+/// The lowest label that no name of the pair has in any row of either image.
+fn free_label(first: &Table, second: &Table) -> u8 {
+    let (low, high) = (first.stall.min(second.stall), first.stall.max(second.stall));
+    let has = |table: &Table, label| {
+        table
+            .stalls()
+            .any(|s| table.stalls().any(|r| table.named(s, r) == Some((low, high, label))))
+    };
+    (0..=label_limit(first.n) as u8)
+        .find(|&label| !has(first, label) && !has(second, label))
+        .expect("4 * N names cannot have 4 * N + 1 labels")
+}
+
+/// The rows, yields and marks that both heads have after the meeting.
+fn merge(first: &Table, second: &Table, verdicts: &[u8; 9], label: u8) -> Table {
+    let (a, b) = (first.stall, second.stall);
+    let met = |r| r == a || r == b;
+    let mut merged = first.clone();
+    let mut latests = [NONE; 9];
+    for r in first.stalls() {
+        let newer = if verdicts[r] == 2 { second } else { first };
+        latests[r] = newer.own_row()[r];
+        merged.yields[r] = newer.yields[r];
+        merged.rows[r] = newer.rows[r];
+    }
+    latests[a] = Name { partner: b as u8, label };
+    latests[b] = Name { partner: a as u8, label };
+    merged.yields[a] = first.current;
+    merged.yields[b] = second.current;
+    merged.rows[a] = latests;
+    merged.rows[b] = latests;
+
+    let first_has = |r: usize| verdicts[r] == 1 || verdicts[r] == 0;
+    let second_has = |r: usize| verdicts[r] == 2 || verdicts[r] == 0;
+    let between_others = |r, s| {
+        if first_has(r) && first_has(s) {
+            first.mark(r, s)
+        } else if second_has(r) && second_has(s) {
+            second.mark(r, s)
+        } else {
+            false
+        }
+    };
+    merged.order = [0; 9];
+    for r in first.stalls().filter(|&r| latests[r] != NONE) {
+        for s in first.stalls() {
+            if met(s) || !met(r) && between_others(r, s) {
+                merged.set_mark(r, s);
+            }
+        }
+    }
+    merged
+}

@@ -1,0 +1,190 @@
+//! Meetings in the library and in the model, alone and as the lists of a parlour.
+
+use crate::calls::{self, agree, hex, Counts, Outcome, Run};
+use crate::images::Random;
+use crate::model::{self, Meeting, Table};
+use std::process::exit;
+
+extern "C" {
+    fn wilbryn_meeting(
+        first: *mut u8,
+        first_len: usize,
+        second: *mut u8,
+        second_len: usize,
+        verdicts: *mut u8,
+        verdicts_len: usize,
+    ) -> u32;
+}
+
+/// What the accepted meetings showed.
+#[derive(Default)]
+pub struct Seen {
+    pub counts: Counts,
+    pub verdicts: [u64; 3],
+    pub most_label: u32,
+}
+
+impl Seen {
+    /// One meeting in the library and in the model.
+    pub fn meet(
+        &mut self,
+        kind: &'static str,
+        first: &[u8],
+        second: &[u8],
+        verdicts: &[u8],
+    ) -> Outcome {
+        let lent = [first, second, verdicts];
+        let mut library = Outcome { answer: 0, runs: lent.map(Run::from).into() };
+        let mut model = Outcome { answer: 0, runs: lent.map(Run::from).into() };
+        if let [a, b, v] = &mut library.runs[..] {
+            let (a_len, b_len, v_len) = (a.len(), b.len(), v.len());
+            library.answer = unsafe {
+                wilbryn_meeting(a.as_mut_ptr(), a_len, b.as_mut_ptr(), b_len, v.as_mut_ptr(), v_len)
+            };
+        }
+        if let [a, b, v] = &mut model.runs[..] {
+            model.answer = model::meeting(a, b, v);
+        }
+        agree("meeting", &lent, &library, &model);
+        if library.answer < 256 && library.runs[..2].iter().any(|image| model::check(image) != 0) {
+            println!("an accepted meeting left a bad image: {:?}", lent.map(hex));
+            exit(1);
+        }
+        self.note(kind, &library);
+        library
+    }
+
+    fn note(&mut self, kind: &'static str, outcome: &Outcome) {
+        self.counts.add(kind, outcome.answer);
+        self.counts.add("meetings in all", outcome.answer);
+        if outcome.answer < 256 {
+            self.most_label = self.most_label.max(outcome.answer);
+            outcome.runs[2].iter().for_each(|&verdict| self.verdicts[verdict as usize] += 1);
+        }
+    }
+}
+
+/// A verdict buffer with something in it: now and then of a wrong length.
+pub fn buffer(random: &mut Random, n: usize, wrong_percent: usize) -> Vec<u8> {
+    let mut len = n;
+    if random.percent(wrong_percent) {
+        len = random.pick(&[0, 1, 2, n - 1, n + 1, 3 * n, 156, 300]);
+    }
+    random.bytes(len)
+}
+
+/// Who meets whom: each way puts other pressure on the labels.
+#[derive(Clone, Copy)]
+pub enum Way {
+    Any,
+    Ring,
+    Hub,
+    Halves,
+    Again,
+}
+
+pub const WAYS: [Way; 5] = [Way::Any, Way::Ring, Way::Hub, Way::Halves, Way::Again];
+
+pub fn next_pair(random: &mut Random, n: usize, way: Way, last: (usize, usize)) -> (usize, usize) {
+    let any = random.stall(n);
+    let (a, b) = match way {
+        Way::Ring => (any, any % n + 1),
+        Way::Hub => (1, random.other_stall(n, 1)),
+        Way::Again if random.percent(60) => last,
+        Way::Halves if random.percent(95) => {
+            let same_half = |&b: &usize| b != any && (b > n / 2) == (any > n / 2);
+            let half: Vec<usize> = (1..=n).filter(same_half).collect();
+            (any, if half.is_empty() { any % n + 1 } else { random.pick(&half) })
+        }
+        _ => (any, random.other_stall(n, any)),
+    };
+    if random.percent(50) {
+        (a, b)
+    } else {
+        (b, a)
+    }
+}
+
+/// The images of one parlour, as the calls leave them. Index 0 is unused.
+pub struct Parlour {
+    pub n: usize,
+    pub images: Vec<Run>,
+    pub way: Way,
+    /// The two that met last.
+    pub pair: (usize, usize),
+}
+
+impl Parlour {
+    pub fn open(random: &mut Random, n: usize, seen: &mut Seen) -> Parlour {
+        let before = vec![0xee; model::length(n)];
+        let mut images = vec![Run::default()];
+        for stall in 1..=n {
+            images.push(calls::fresh(&mut seen.counts, &before, n as u8, stall as u8));
+        }
+        Parlour { n, images, way: random.pick(&WAYS), pair: (1, 2) }
+    }
+
+    pub fn next_pair(&mut self, random: &mut Random) -> (usize, usize) {
+        self.pair = next_pair(random, self.n, self.way, self.pair);
+        self.pair
+    }
+
+    pub fn meet(&mut self, seen: &mut Seen, kind: &'static str, verdicts: &[u8]) -> Outcome {
+        let (a, b) = self.pair;
+        let outcome = seen.meet(kind, &self.images[a], &self.images[b], verdicts);
+        self.images[a] = outcome.runs[0].clone();
+        self.images[b] = outcome.runs[1].clone();
+        outcome
+    }
+
+    pub fn milk(&mut self, seen: &mut Seen, stall: usize, new: u16) -> u32 {
+        calls::milking(&mut seen.counts, &mut self.images[stall], new)
+    }
+
+    /// Some milkings and one meeting, then a check and a heard list.
+    pub fn step(&mut self, random: &mut Random, seen: &mut Seen) {
+        while random.percent(40) {
+            self.milk(seen, random.stall(self.n), random.any_yield());
+        }
+        let (a, b) = self.next_pair(random);
+        self.meet(seen, "from lists", &buffer(random, self.n, 5));
+        calls::check(&mut seen.counts, &self.images[a]);
+        calls::heard(&mut seen.counts, &self.images[b], &vec![0xee; 3 * self.n]);
+    }
+
+    pub fn fail(&self, what: &str) -> ! {
+        println!("{what}\n  the last pair was {:?}; the images", self.pair);
+        self.images[1..].iter().for_each(|image| println!("    {}", hex(image)));
+        exit(1);
+    }
+
+    pub fn table(&self, head: usize) -> Table {
+        model::read(&self.images[head]).unwrap_or_else(|_| self.fail("a list left a bad image"))
+    }
+
+    /// Each meeting that an own row names, with the place that it stands for.
+    fn named(&self, place: impl Fn(usize, usize) -> usize) -> Vec<(Meeting, usize)> {
+        let mut named = Vec::new();
+        for head in 1..=self.n {
+            let table = self.table(head);
+            for r in 1..=self.n {
+                named.extend(table.named(head, r).map(|meeting| (meeting, place(head, r))));
+            }
+        }
+        named
+    }
+
+    /// Two names in own rows are the same exactly when they stand for the same meeting.
+    pub fn expect_clear_names(&self, place: impl Fn(usize, usize) -> usize) {
+        let mut named = self.named(place);
+        named.sort();
+        named.dedup();
+        let mut places: Vec<usize> = named.iter().map(|&(_, place)| place).collect();
+        places.sort();
+        places.dedup();
+        let one_name_twice = named.windows(2).any(|two| two[0].0 == two[1].0);
+        if one_name_twice || places.len() != named.len() {
+            self.fail("names and meetings do not go together");
+        }
+    }
+}
