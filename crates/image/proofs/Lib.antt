@@ -6,3 +6,5 @@ pub mod Gather
 pub mod Places
 pub mod OrderByte
 pub mod Stages
+pub mod Accepted
+pub mod Fill

@@ -2,6 +2,8 @@
 pub mod Stalls
 pub mod Layout
 pub mod Frame
+pub mod Fresh
 pub mod Check
+pub mod Row
 pub mod Encode
 pub mod Examples

@@ -6,8 +6,9 @@ ghost use Rattle.image.specs.Layout.{labelLimit, lengthOf, nameFrom};
 ghost use Rattle.image.specs.Frame.{Sized};
 ghost use Rattle.image.specs.Check.{checkBody, checked, numberOf};
 
-mod bytes;
-mod marks;
+pub mod bytes;
+pub mod marks;
+pub mod rows;
 mod names;
 
 // The meeting with a partner that has a label.
@@ -20,6 +21,11 @@ pub struct Meet {
 pub enum Name {
     Never,
     With(Meet),
+}
+
+// A record of a row.
+pub struct Entry {
+    pub name: Name,
 }
 
 // What an image begins with.

@@ -1,0 +1,3 @@
+-- The lemmas of `head`. What crates above cite is `pub mod`.
+pub mod Milking
+pub mod Freshness

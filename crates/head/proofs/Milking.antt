@@ -1,0 +1,31 @@
+-- A milking, by what the check answers.
+use Prim.Native.Nat.{ℕ, _≤_, _<_}
+use mathlib.Core.Path.{_≡_, refl, sym, ap, _∙_}
+use mathlib.Core.List.{List}
+use native.Mathlib.Omega.{arith}
+use borrow.Author.Tests.{lt-ltb, le-ltb}
+use lib.ListN.{length}
+use Rattle.image.specs.Layout.{yieldLimit}
+use Rattle.image.specs.Check.{checked, numberOf}
+use Rattle.image.specs.declared.Header.{Header}
+use Rattle.image.specs.declared.Checked.{Checked}
+use Rattle.image.specs.declared.Checked.the-variants.{Good, Refused}
+use Rattle.image.proofs.Accepted.{accepted}
+use Rattle.head.specs.Calls.{Outcome, refused, accepted as done, withCurrent, milked, milkingCall}
+
+module _ (s : List ℕ) (yield : ℕ) where
+  pub milking-refused : {k code : ℕ} → checked s ≡ Refused k → code ≡ k → refused code s ≡ milkingCall s yield
+  unfolding milkingCall milked
+  milking-refused e i = rw (e, i)
+
+  pub milking-over : {h : Header} → checked s ≡ Good h → yieldLimit < yield → refused 4 s ≡ milkingCall s yield
+  unfolding milkingCall milked
+  milking-over e l = rw (e, lt-ltb yieldLimit yield l)
+
+  pub milking-done : {h : Header} → checked s ≡ Good h → yield ≤ yieldLimit → done (withCurrent s yield) ≡ milkingCall s yield
+  unfolding milkingCall milked
+  milking-done e l = rw (e, le-ltb yieldLimit yield l)
+
+-- a good image has its header
+pub good-long : (s : List ℕ) {h : Header} → checked s ≡ Good h → 4 < length s
+good-long s {h} e = let f = accepted s h e .frame in omega (arith, f .long, f .n-from)

@@ -1,0 +1,3 @@
+-- What a reader has to believe of `head`, in this order.
+pub mod Calls
+pub mod Heard

@@ -1,0 +1,95 @@
+// The calls of a head, as C firmware links them.
+ghost use mathlib.Core.Path.{_≡_};
+ghost use Prim.Native.Nat.{_≤_};
+ghost use mathlib.Core.Bool.{_&&_, not};
+ghost use lib.Dec.{leb};
+ghost use lib.ListN.{length, take};
+ghost use Rattle.head.specs.Calls.{Outcome, freshCall, milkingCall};
+ghost use Rattle.head.specs.Heard.{HeardCall};
+ghost use Rattle.image.specs.Check.{checked, numberOf};
+
+use image::Checked;
+use image::Head;
+
+mod heard;
+
+// The number of the first check that fails, 0 where none does.
+#[no_mangle]
+pub extern "C" fn wilbryn_check(image: &[u8]) -> u32
+    ensures { λ r. ⌜ r ≡ numberOf (checked (now (image .entry))) ⌝ }
+{
+    image::number_of(image::check(image))
+}
+
+// The image as the first bytes of a table.
+fn write_table(image: &mut [u8], table: [u8; 156])
+    requires { ⌜ (length (now image) ≤ 156) × (length table ≡ 156) ⌝ }
+    ensures { λ r. ⌜ now (image .exit) ≡ take (length (now (image .entry))) table ⌝ }
+{
+    let mut i = 0usize;
+    while i < image.len() {
+        image[i] = table[i];
+        i += 1;
+    }
+}
+
+// A fresh table of a parlour of n heads, for the head at a stall.
+#[no_mangle]
+pub extern "C" fn wilbryn_fresh(image: &mut [u8], n: u8, stall: u8) -> u32
+    ensures { λ r. ⌜ _≡_ {A = Outcome} (record { answer = r; image = now (image .exit) }) (freshCall (now (image .entry)) n stall) ⌝ }
+{
+    if bad_range(2, n, 8) {
+        return 1;
+    }
+    if image.len() != image::length_of(image::bytes::wide(n)) {
+        return 2;
+    }
+    if bad_range(1, stall, n) {
+        return 3;
+    }
+    let table = Head::fresh(n, stall);
+    let bytes = table.image;
+    write_table(image, bytes);
+    0
+}
+
+// x is not a to b.
+fn bad_range(a: u8, x: u8, b: u8) -> bool
+    ensures { λ r. ⌜ r ≡ not (leb a x && leb x b) ⌝ }
+{
+    !((a <= x) & (x <= b))
+}
+
+// The current yield becomes a new one.
+#[no_mangle]
+pub extern "C" fn wilbryn_milking(image: &mut [u8], given: u16) -> u32
+    ensures { λ r. ⌜ _≡_ {A = Outcome} (record { answer = r; image = now (image .exit) }) (milkingCall (now (image .entry)) given) ⌝ }
+{
+    let c = image::check(image);
+    let Checked::Good(_) = c else {
+        return image::number_of(c);
+    };
+    if Head::YIELD_LIMIT < given {
+        return 4;
+    }
+    image[2] = (given / 256) as u8;
+    image[3] = (given % 256) as u8;
+    0
+}
+
+// The heard stalls of a table with their yields.
+#[no_mangle]
+pub extern "C" fn wilbryn_heard(image: &[u8], records: &mut [u8]) -> u32
+    ensures { λ r. ⌜ HeardCall (now (image .entry)) (now (records .entry)) r (now (records .exit)) ⌝ }
+{
+    let c = image::check(image);
+    let Checked::Good(h) = c else {
+        return 256 + image::number_of(c);
+    };
+    let n = h.n;
+    let own = h.stall;
+    if records.len() != 3 * image::bytes::wide(n) {
+        return 264;
+    }
+    heard::heard_list(image, n, own, records)
+}

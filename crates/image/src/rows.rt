@@ -1,0 +1,43 @@
+// Rows as records, each of which holds a name.
+ghost use mathlib.Core.Path.{_≡_};
+ghost use Prim.Native.Nat.{_+_, _*_, _≤_};
+ghost use lib.ListN.{length};
+ghost use Rattle.image.specs.Layout.{largest};
+ghost use Rattle.image.specs.Row.{tabulate, entryAt, ownRow};
+
+use crate::Name;
+use crate::Entry;
+use crate::name_from;
+use crate::bytes::wide;
+use crate::bytes::row_place;
+
+// The row that starts at a place.
+fn row_at(image: &[u8], n: usize, at: usize) -> [Entry; 8]
+    requires { ⌜ (n ≤ largest) × (at + n * 2 ≤ length (now image)) ⌝ }
+    ensures { λ r. ⌜ r ≡ tabulate largest (entryAt (now (image .entry)) n at) ⌝ }
+{
+    let mut row = [Entry { name: Name::Never }; 8];
+    let mut place = at;
+    let mut c = 0usize;
+    while c < n {
+        row[c] = Entry { name: name_from(image[place], image[place + 1]) };
+        place += 2;
+        c += 1;
+    }
+    row
+}
+
+// The own row of a table.
+pub fn own_row(image: &[u8], n: u8, own: u8) -> [Entry; 8]
+    ensures { λ r. ⌜ r ≡ ownRow (now (image .entry)) n own ⌝ }
+{
+    let m = wide(n);
+    let at = row_place(n, own);
+    if 8 < m {
+        return [Entry { name: Name::Never }; 8];
+    }
+    if image.len() < at + m * 2 {
+        return [Entry { name: Name::Never }; 8];
+    }
+    row_at(image, m, at)
+}
