@@ -2,12 +2,12 @@
 ghost use mathlib.Core.Path.{_≡_};
 ghost use Prim.Native.Nat.{_+_, _-_, _*_, _≤_};
 ghost use mathlib.Core.Bool.{cond};
-ghost use mathlib.Core.List.{[], _∷_, _++_, flatMap};
+ghost use mathlib.Core.List.{[], _∷_, _++_};
 ghost use lib.ListN.{length, take, drop, replicate};
-ghost use Rattle.image.specs.Row.{ownRow};
-ghost use Rattle.image.specs.Layout.{yieldPlace};
-ghost use Rattle.image.proofs.Accepted.{Accepted};
-ghost use Rattle.head.specs.Heard.{recordOf, heardUpTo, isHeard, HeardList};
+ghost use Rattle.image.specs.Frame.{Framed};
+ghost use Rattle.image.specs.Layout.{largest};
+ghost use Rattle.head.specs.Heard.{HeardList};
+ghost use Rattle.head.specs.HeardOrder.{isName, chosen, heardIn, recordsTo};
 
 use image::Entry;
 use image::Name;
@@ -16,7 +16,7 @@ use image::bytes::wide;
 
 // A record has a name.
 fn is_heard(e: Entry) -> bool
-    ensures { λ r. ⌜ r ≡ isHeard e ⌝ }
+    ensures { λ r. ⌜ r ≡ isName (e .name) ⌝ }
 {
     let name = e.name;
     match name {
@@ -54,4 +54,38 @@ fn clear_from(records: &mut [u8], at: usize)
         records[i] = 0;
         i += 1;
     }
+}
+
+// The records of the heard stalls of a row, by stall number, and where they end.
+fn put_records(image: &[u8], n: usize, yields: usize, row: [Entry; 8], records: &mut [u8]) -> usize
+    requires { ⌜ (n ≤ largest) × (yields + n * 2 ≤ length (now image)) × (length (now records) ≡ 3 * n) × (length row ≡ 8) ⌝ }
+    ensures {
+        λ r.
+            ⌜ (r ≡ 3 * length (chosen n (heardIn row)))
+            × (now (records .exit) ≡ recordsTo (now (image .entry)) yields row n ++ drop r (now (records .entry))) ⌝
+    }
+{
+    let mut at = 0usize;
+    let mut y = yields;
+    let mut r = 1usize;
+    while r <= n {
+        let e = row[r - 1];
+        let next = put_record(records, at, is_heard(e), r as u8, image[y], image[y + 1]);
+        at = next;
+        y += 2;
+        r += 1;
+    }
+    at
+}
+
+// The heard list of an accepted image into a buffer of the right length.
+pub(crate) fn heard_list(image: &[u8], n: u8, own: u8, records: &mut [u8]) -> u32
+    requires { ⌜ Framed (now image) n own × (length (now records) ≡ 3 * n) ⌝ }
+    ensures { λ r. ⌜ HeardList (now (image .entry)) n own r (now (records .exit)) ⌝ }
+{
+    let m = wide(n);
+    let row = own_row(image, n, own);
+    let end = put_records(image, m, image.len() - (m + m + m), row, records);
+    clear_from(records, end);
+    (end / 3) as u32
 }
