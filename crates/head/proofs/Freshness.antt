@@ -49,7 +49,7 @@ module _ (s : List ℕ) (n stall : ℕ) where
       ap (λ r. n ∷ stall ∷ r) (take-replicate k 154 0 (omega arith) ∙ ap (λ j. replicate j 0) (sym e))
 
   pub fresh-done : (out table : List ℕ) → not (leb 2 n && leb n largest) ≡ false → length s ≡ lengthOf n → badStall n stall ≡ false
-    → out ≡ take (length s) table → table ≡ n ∷ stall ∷ replicate 154 0 → accepted out ≡ freshCall s n stall
+      → out ≡ take (length s) table → table ≡ n ∷ stall ∷ replicate 154 0 → accepted out ≡ freshCall s n stall
   unfolding freshCall freshImage
   fresh-done out table a b c d e =
       let (p, q) = length-range n a in

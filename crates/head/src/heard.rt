@@ -8,11 +8,10 @@ ghost use Rattle.image.specs.Frame.{Framed};
 ghost use Rattle.image.specs.Layout.{largest};
 ghost use Rattle.head.specs.Heard.{HeardList};
 ghost use Rattle.head.specs.HeardOrder.{isName, chosen, heardIn, recordsTo};
-
 use image::Entry;
 use image::Name;
-use image::rows::own_row;
 use image::bytes::wide;
+use image::rows::own_row;
 
 // A record has a name.
 fn is_heard(e: Entry) -> bool
@@ -28,12 +27,10 @@ fn is_heard(e: Entry) -> bool
 // One record at a place if the stall is heard, and the place after it.
 fn put_record(records: &mut [u8], at: usize, heard: bool, stall: u8, high: u8, low: u8) -> usize
     requires { ⌜ at + 3 ≤ length (now records) ⌝ }
-    ensures {
-        λ r.
-            ⌜ (r ≡ cond heard (at + 3) at)
-            × (now (records .exit)
-            ≡ cond heard (take at (now (records .entry)) ++ (stall ∷ high ∷ low ∷ []) ++ drop (at + 3) (now (records .entry))) (now (records .entry))) ⌝
-    }
+    ensures { λ r.
+        ⌜ (r ≡ cond heard (at + 3) at)
+        × (now (records .exit)
+        ≡ cond heard (take at (now (records .entry)) ++ (stall ∷ high ∷ low ∷ []) ++ drop (at + 3) (now (records .entry))) (now (records .entry))) ⌝ }
 {
     if !heard {
         return at;
@@ -59,11 +56,9 @@ fn clear_from(records: &mut [u8], at: usize)
 // The records of the heard stalls of a row, by stall number, and where they end.
 fn put_records(image: &[u8], n: usize, yields: usize, row: [Entry; 8], records: &mut [u8]) -> usize
     requires { ⌜ (n ≤ largest) × (yields + n * 2 ≤ length (now image)) × (length (now records) ≡ 3 * n) × (length row ≡ 8) ⌝ }
-    ensures {
-        λ r.
-            ⌜ (r ≡ 3 * length (chosen n (heardIn row)))
-            × (now (records .exit) ≡ recordsTo (now (image .entry)) yields row n ++ drop r (now (records .entry))) ⌝
-    }
+    ensures { λ r.
+        ⌜ (r ≡ 3 * length (chosen n (heardIn row)))
+        × (now (records .exit) ≡ recordsTo (now (image .entry)) yields row n ++ drop r (now (records .entry))) ⌝ }
 {
     let mut at = 0usize;
     let mut y = yields;

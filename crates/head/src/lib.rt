@@ -7,7 +7,6 @@ ghost use lib.ListN.{length, take};
 ghost use Rattle.head.specs.Calls.{Outcome, freshCall, milkingCall};
 ghost use Rattle.head.specs.Heard.{HeardCall};
 ghost use Rattle.image.specs.Check.{checked, numberOf};
-
 use image::Checked;
 use image::Head;
 

@@ -1,5 +1,5 @@
 -- What a good image is, byte by byte: none of the numbers 1 to 6 applies.
-use Prim.Native.Nat.{ℕ, _≤_}
+use Prim.Native.Nat.{ℕ, _≤_, _<_}
 use mathlib.Core.Path.{_≡_, refl, sym, ap₂, subst₂, _∙_}
 use mathlib.Core.Bool.{Bool, true, false, cond, not, _&&_, _||_, true≢false}
 use mathlib.Core.List.{List}
@@ -10,9 +10,11 @@ use lib.ListN.{length, getD}
 use Rattle.image.specs.Layout.{largest, lengthOf}
 use Rattle.image.specs.Frame.{Sized, Framed}
 use Rattle.image.specs.Check.{badCount, badLength, badStall, badYields, badNames, badMarks, checkBody, checked}
+use Rattle.image.specs.Encode.{encode, tableOf}
 use Rattle.image.specs.declared.Header.{Header}
 use Rattle.image.specs.declared.Checked.{Checked}
 use Rattle.image.specs.declared.Checked.the-variants.{Good, Refused}
+use Rattle.image.proofs.Encoding.{encode-accepted}
 use Rattle.image.proofs.Stages.{sized, framed, good-body, checked-body}
 
 pub record Accepted (s : List ℕ) (n own : ℕ) : Type 0 where
@@ -69,3 +71,8 @@ checked-accepted {s} {n} {own} w =
     sym (checked-body s (λ e. omega (arith, f .long)) (rw (w .count) (within (f .n-from) (f .n-to))) (rw (w .count) z))
     ∙ ap₂ (checkBody s) (w .count) (w .stall)
     ∙ sym (good-body s n own (within (f .own-from) (f .own-to)) (w .yields) (w .names) (w .marks))
+
+-- an accepted image is the image of what it says
+pub accepted-encode : {s : List ℕ} {n own : ℕ} → Accepted s n own → ((k : ℕ) → getD s k 0 < 256) → encode n own (tableOf s n) ≡ s
+accepted-encode {s} {n} {own} w bytes =
+    encode-accepted s n own (w .frame) (w .count) (w .stall) bytes (w .names) (w .marks)

@@ -21,8 +21,8 @@ getD-tabulate (suc m) f d k l =
     elim (decLt k m) [
       | yes a ↦ List·getD-append (tabulate m f) _ d k (omega (arith, length-tabulate m f)) ∙ getD-tabulate m f d k a
       | no a ↦
-        let e : k ≡ m = omega arith in
-        ap (λ j. getD (tabulate (suc m) f) j d) e ∙ getD-at (tabulate m f) (f (suc m)) [] d m (length-tabulate m f) ∙ ap (λ j. f (suc j)) (sym e)
+          let e : k ≡ m = omega arith in
+          ap (λ j. getD (tabulate (suc m) f) j d) e ∙ getD-at (tabulate m f) (f (suc m)) [] d m (length-tabulate m f) ∙ ap (λ j. f (suc j)) (sym e)
     ]
 
 -- the first c of m records are there

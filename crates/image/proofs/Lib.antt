@@ -6,5 +6,8 @@ pub mod Gather
 pub mod Places
 pub mod OrderByte
 pub mod Stages
+pub mod Has
+pub mod Encoding
 pub mod Accepted
+pub mod FreshTable
 pub mod Fill

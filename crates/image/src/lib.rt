@@ -8,8 +8,8 @@ ghost use Rattle.image.specs.Check.{checkBody, checked, numberOf};
 
 pub mod bytes;
 pub mod marks;
-pub mod rows;
 mod names;
+pub mod rows;
 
 // The meeting with a partner that has a label.
 pub struct Meet {

@@ -4,12 +4,11 @@ ghost use Prim.Native.Nat.{_+_, _*_, _≤_};
 ghost use lib.ListN.{length};
 ghost use Rattle.image.specs.Layout.{largest};
 ghost use Rattle.image.specs.Row.{tabulate, entryAt, ownRow};
-
-use crate::Name;
 use crate::Entry;
-use crate::name_from;
-use crate::bytes::wide;
+use crate::Name;
 use crate::bytes::row_place;
+use crate::bytes::wide;
+use crate::name_from;
 
 // The row that starts at a place.
 fn row_at(image: &[u8], n: usize, at: usize) -> [Entry; 8]
@@ -20,7 +19,9 @@ fn row_at(image: &[u8], n: usize, at: usize) -> [Entry; 8]
     let mut place = at;
     let mut c = 0usize;
     while c < n {
-        row[c] = Entry { name: name_from(image[place], image[place + 1]) };
+        row[c] = Entry {
+            name: name_from(image[place], image[place + 1]),
+        };
         place += 2;
         c += 1;
     }

@@ -22,7 +22,7 @@ next d t image i a b e = rw (add-one, e) (simp zero-add at (paste-suc d 0 t i 0 
 
 -- all of them
 whole : (d t image : List ℕ) (i : ℕ) → length d ≤ i → i ≤ length d → image ≡ take i t ++ drop i d → image ≡ take (length d) t
-whole d t image i a b e = 
+whole d t image i a b e =
     e ∙ ap (λ k. take k t ++ drop k d) (let j : i ≡ length d = omega arith in j) ∙ ap (λ r. take (length d) t ++ r) (drop-length d) ∙ append-nil _
 
 pub write-table-spec : {M : Type 1} → statement M

@@ -21,7 +21,7 @@ abbrev μ-loop : tie.MeasureT-loop
 
 -- the record of column c + 1
 entry-next : (s : List ℕ) (n at c place : ℕ) (x : Name) → c < n → place ≡ at + c * 2 → x ≡ nameFrom (getD s place 0) (getD s (place + 1) 0)
-  → _≡_ {A = Entry} (record { name = x }) (entryAt s n at (suc c))
+    → _≡_ {A = Entry} (record { name = x }) (entryAt s n at (suc c))
 unfolding entryAt
 entry-next s n at c place x l e i =
     let a : at + (suc c - 1) * 2 ≡ place = omega arith in
