@@ -1,3 +1,7 @@
 -- The lemmas of `head`. What crates above cite is `pub mod`.
 pub mod Milking
 pub mod Freshness
+pub mod Stores
+pub mod Records
+pub mod HeardLists
+pub mod HeardCalls

@@ -32,13 +32,13 @@ fn put_record(records: &mut [u8], at: usize, heard: bool, stall: u8, high: u8, l
         × (now (records .exit)
         ≡ cond heard (take at (now (records .entry)) ++ (stall ∷ high ∷ low ∷ []) ++ drop (at + 3) (now (records .entry))) (now (records .entry))) ⌝ }
 {
-    if !heard {
-        return at;
+    if heard {
+        records[at] = stall;
+        records[at + 1] = high;
+        records[at + 2] = low;
+        return at + 3;
     }
-    records[at] = stall;
-    records[at + 1] = high;
-    records[at + 2] = low;
-    at + 3
+    at
 }
 
 // Zeros from a place on.

@@ -1,7 +1,7 @@
 -- The check, stage by stage: the first number that applies is the answer.
 use Prim.Native.Nat.{ℕ, _+_, _*_, _≤_}
 use mathlib.Core.Path.{_≡_, refl, sym, _∙_}
-use mathlib.Core.Bool.{Bool, true, false, _&&_, not, true≢false}
+use mathlib.Core.Bool.{Bool, true, false, _&&_, not, cond, true≢false}
 use mathlib.Core.List.{List}
 use native.Mathlib.Omega.{arith}
 use borrow.Author.Tests.{leb-true, le-leb, eq-eqb, ne-eqb}
@@ -9,7 +9,7 @@ use lib.Dec.{leb, eqb}
 use lib.ListN.{length, getD}
 use Rattle.image.specs.Layout.{largest, lengthOf}
 use Rattle.image.specs.Frame.{Sized, Framed}
-use Rattle.image.specs.Check.{badCount, badLength, badStall, badYields, badNames, badMarks, checkBody, checked}
+use Rattle.image.specs.Check.{badCount, badLength, badStall, badYields, badNames, badMarks, checkBody, checked, numberOf}
 use Rattle.image.specs.declared.Header.{Header}
 use Rattle.image.specs.declared.Checked.{Checked}
 use Rattle.image.specs.declared.Checked.the-variants.{Good, Refused}
@@ -75,3 +75,22 @@ module _ (s : List ℕ) where
       → checkBody s (getD s 0 0) (getD s 1 0) ≡ checked s
   unfolding checked badCount badLength
   checked-body a b c = rw (ne-eqb (length s) 0 a, b, eq-eqb (length s) (lengthOf (getD s 0 0)) c)
+
+-- No number is above 6
+
+number-cond : (b : Bool) (x y : Checked) → numberOf x ≤ 6 → numberOf y ≤ 6 → numberOf (cond b x y) ≤ 6
+number-cond true x y p q = p
+number-cond false x y p q = q
+
+body-number : (s : List ℕ) (n own : ℕ) → numberOf (checkBody s n own) ≤ 6
+unfolding checkBody
+body-number s n own =
+    number-cond (badStall n own) _ _ (omega arith)
+    (number-cond (badYields s n) _ _ (omega arith)
+    (number-cond (badNames s n own) _ _ (omega arith) (number-cond (badMarks s n own) _ _ (omega arith) (omega arith))))
+
+pub number-le : (s : List ℕ) → numberOf (checked s) ≤ 6
+unfolding checked
+number-le s =
+    number-cond (badCount s) _ _ (omega arith)
+    (number-cond (badLength s) _ _ (omega arith) (body-number s (getD s 0 0) (getD s 1 0)))

@@ -1,41 +1,21 @@
+-- Zeros from a place on.
+use Prim.Native.Nat.{ℕ, _+_, _-_, _≤_, _<_}
+use mathlib.Core.Path.{_≡_, refl, ap, _∙_}
+use mathlib.Core.List.{List}
+use native.Mathlib.Omega.{arith}
+use lib.ListN.{length, set, length-set}
+use Rattle.head.proofs.Stores.{cleared, cleared-start, cleared-next, cleared-end}
 use Rattle.head.proofs.heard.clear_from.Statement.{statement}
 use Rattle.head.proofs.heard.clear_from.Tie as tie
-use Rattle.head.proofs.heard.clear_from.Reads as reads
-use Rattle.head.proofs.heard.clear_from.Lts as lts
 
 abbrev Inv-loop : tie.InvT-loop
-Inv-loop records₀ at i₀ records i = ?
+Inv-loop records₀ at i₀ records i = (at ≤ i) × (i ≤ length records₀) × (records ≡ cleared records₀ at i) × (length records ≡ length records₀)
 
 abbrev μ-loop : tie.MeasureT-loop
-μ-loop records₀ at i₀ records i = ?
+μ-loop records₀ at i₀ records i = length records₀ - i
 
--- src/heard.rt:53:5
-loop-holds : tie.Need-loop-holds Inv-loop μ-loop
-loop-holds c = ?
-
--- src/heard.rt:54:9
-slice-write-records : tie.Need-slice-write-records Inv-loop μ-loop
-slice-write-records c = ?
-
--- src/heard.rt:55:9
-add-i : tie.Need-add-i Inv-loop μ-loop
-add-i c = ?
-
--- src/heard.rt:53:5
-loop-less : tie.Need-loop-less Inv-loop μ-loop
-loop-less c = ?
-
--- src/heard.rt:53:5
-loop-again : tie.Need-loop-again Inv-loop μ-loop
-loop-again c = ?
-
--- src/heard.rt:48:1
-same-length : tie.Need-same-length Inv-loop μ-loop
-same-length c = ?
-
--- src/heard.rt:48:1
-returns : tie.Need-returns Inv-loop μ-loop
-returns c = ?
+turn : (d records : List ℕ) (at i : ℕ) → at ≤ i → i < length d → records ≡ cleared d at i → set records i 0 ≡ cleared d at (i + 1)
+turn d records at i a l e = ap (λ r. set r i 0) e ∙ cleared-next d at i a l
 
 pub clear-from-spec : {M : Type 1} → statement M
 clear-from-spec =
@@ -43,10 +23,10 @@ clear-from-spec =
     (tie.spec
     Inv-loop
     μ-loop
-    loop-holds
-    slice-write-records
-    add-i
-    loop-less
-    loop-again
-    same-length
-    returns)
+    (λ c. (omega arith, omega arith, cleared-start _ _, refl))
+    (λ c. omega arith)
+    (λ c. omega arith)
+    (λ c. omega arith)
+    (λ c. (omega arith, omega arith, turn (c .before .before .args .records .now) (c .before .loop .records) (c .before .before .args .at) (c .before .loop .i) (omega arith) (omega arith) (c .before .loop .inv .2), simp length-set (c .before .loop .inv .3)))
+    (λ c. c .before .loop .inv .3)
+    (λ c. c .before .loop .inv .2 ∙ cleared-end _ _ _ (omega arith)))

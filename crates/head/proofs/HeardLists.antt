@@ -1,0 +1,145 @@
+-- The list that is written is a heard list: each heard stall and no other has one record, with its yield.
+use Prim.Native.Nat.{ℕ, zero, suc, _+_, _-_, _*_, _/_, _≤_, _<_}
+use mathlib.Core.Path.{_≡_, refl, sym, ap, ap₂, _∙_}
+use mathlib.Core.Bool.{Bool, true, false, _&&_, not, cond, and-false}
+use mathlib.Core.List.{List, [], _∷_, _++_, flatMap}
+use native.Mathlib.Omega.{arith}
+use native.Mathlib.Nat.{zero-add, add-zero}
+use native.Mathlib.Decide.{decLe, ℕ-discrete}
+use borrow.Author.Tests.{le-leb, lt-leb, eq-eqb, ne-eqb}
+use lib.Dec.{leb, eqb}
+use lib.ListN.{length, take, drop, getD, replicate, length-append}
+use lib.Seq.{take-at}
+use Rattle.image.specs.Layout.{largest, rowPlace, yieldPlace, nameFrom, heardAt}
+use Rattle.image.specs.Frame.{Framed}
+use Rattle.image.specs.Row.{tabulate, neverAt, entryAt, ownRow}
+use Rattle.image.specs.declared.Meet.{Meet}
+use Rattle.image.specs.declared.Name.{Name}
+use Rattle.image.specs.declared.Name.the-variants.{Never, With}
+use Rattle.image.specs.declared.Entry.{Entry}
+use Rattle.image.proofs.Places.{row-within}
+use Rattle.image.proofs.Fill.{getD-tabulate}
+use Rattle.head.specs.Heard.{occurrences, recordOf, HeardList}
+use Rattle.head.specs.HeardOrder.{isName, heardIn, chosen, recordAt, recordsTo}
+use Rattle.head.proofs.Records.{length-recordsTo}
+
+-- The stalls that pass a test, each once
+
+pub length-chosen : (n : ℕ) (f : ℕ → Bool) → length (chosen n f) ≤ n
+unfolding chosen
+length-chosen zero f = omega arith
+length-chosen (suc n) f = go (f (suc n)) (length-chosen n f)
+  where
+    go : (t : Bool) → length (chosen n f) ≤ n → length (chosen n f ++ cond t (suc n ∷ []) []) ≤ suc n
+    go true l = omega (arith, length-append (chosen n f) (suc n ∷ []))
+    go false l = omega (arith, length-append {A = ℕ} (chosen n f) [])
+
+pub chosen-agree : (n : ℕ) (f g : ℕ → Bool) → ((r : ℕ) → 1 ≤ r → r ≤ n → f r ≡ g r) → chosen n f ≡ chosen n g
+unfolding chosen
+chosen-agree zero f g e = refl
+chosen-agree (suc n) f g e =
+    ap₂ (λ l t. l ++ cond t (suc n ∷ []) []) (chosen-agree n f g (λ r a b. e r a (omega arith))) (e (suc n) (omega arith) (omega arith))
+
+occurrences-append : (r : ℕ) (l m : List ℕ) → occurrences r (l ++ m) ≡ occurrences r l + occurrences r m
+unfolding occurrences
+occurrences-append r [] m = omega arith
+occurrences-append r (a ∷ l) m = omega (arith, occurrences-append r l m)
+
+-- the last stall counts for itself alone
+last-other : (r n : ℕ) (t : Bool) → (r ≡ suc n → ⊥) → occurrences r (cond t (suc n ∷ []) []) ≡ 0
+unfolding occurrences
+last-other r n true f = rw (ne-eqb r (suc n) f)
+last-other r n false f = refl
+
+last-same : (n : ℕ) (t : Bool) → occurrences (suc n) (cond t (suc n ∷ []) []) ≡ cond t 1 0
+unfolding occurrences
+last-same n true = rw (eq-eqb (suc n) (suc n) refl)
+last-same n false = refl
+
+above : (r n : ℕ) (a b : Bool) → n < r → _≡_ {A = ℕ} (cond (a && (leb r n && b)) 1 0) 0
+above r n a b l = rw (lt-leb r n l, and-false a)
+
+at-end : (n : ℕ) (t : Bool) → _≡_ {A = ℕ} (cond (leb 1 (suc n) && (leb (suc n) (suc n) && t)) 1 0) (cond t 1 0)
+at-end n t = rw (le-leb 1 (suc n) (omega arith), le-leb (suc n) (suc n) (omega arith))
+
+same-test : (r n : ℕ) → (r ≡ suc n → ⊥) → leb r n ≡ leb r (suc n)
+same-test r n e =
+    elim (decLe r n) [
+      | yes l ↦ le-leb r n l ∙ sym (le-leb r (suc n) (omega arith))
+      | no l ↦ lt-leb r n (omega arith) ∙ sym (lt-leb r (suc n) (omega arith))
+    ]
+
+occurrences-chosen : (r n : ℕ) (f : ℕ → Bool) → occurrences r (chosen n f) ≡ cond (leb 1 r && (leb r n && f r)) 1 0
+unfolding occurrences chosen
+occurrences-chosen zero zero f = refl
+occurrences-chosen (suc r) zero f = rw (lt-leb (suc r) 0 (omega arith), and-false (leb 1 (suc r)))
+occurrences-chosen r (suc n) f =
+    occurrences-append r (chosen n f) (cond (f (suc n)) (suc n ∷ []) []) ∙ elim (ℕ-discrete r (suc n)) [
+      | yes e ↦
+          let before : occurrences r (chosen n f) ≡ 0 = occurrences-chosen r n f ∙ above r n (leb 1 r) (f r) (omega arith) in
+          ap₂ _+_ before (ap (λ k. occurrences k (cond (f (suc n)) (suc n ∷ []) [])) e ∙ last-same n (f (suc n)))
+          ∙ zero-add _ ∙ sym (ap (λ k. cond (leb 1 k && (leb k (suc n) && f k)) 1 0) e ∙ at-end n (f (suc n)))
+      | no e ↦
+          ap₂ _+_ (occurrences-chosen r n f) (last-other r n (f (suc n)) e)
+          ∙ add-zero _ ∙ ap (λ t. cond (leb 1 r && (t && f r)) 1 0) (same-test r n e)
+    ]
+
+-- The own row says who was heard
+
+named : (p l : ℕ) → isName (nameFrom p l) ≡ not (eqb p 0)
+unfolding nameFrom
+named p l = go (eqb p 0)
+  where
+    go : (t : Bool) → isName (cond t Never (With (record { partner = p; label = l }))) ≡ not t
+    go true = refl
+    go false = refl
+
+own-row-is : (s : List ℕ) (n own : ℕ) → Framed s n own → ownRow s n own ≡ tabulate largest (entryAt s n (rowPlace n own))
+unfolding ownRow
+own-row-is s n own f =
+    rw (le-leb n largest (f .n-to), le-leb (rowPlace n own + n * 2) (length s) (omega (arith, f .long, row-within (f .own-from) (f .own-to))))
+
+entry-heard : (s : List ℕ) (n own r : ℕ) → 1 ≤ r → r ≤ n → isName (entryAt s n (rowPlace n own) r .name) ≡ heardAt s n own r
+unfolding entryAt heardAt
+entry-heard s n own r a b = rw (le-leb r n b) (named _ _)
+
+heard-agree : (s : List ℕ) (n own : ℕ) (row : List Entry) → Framed s n own → row ≡ ownRow s n own → (r : ℕ) → 1 ≤ r → r ≤ n → heardIn row r ≡ heardAt s n own r
+heard-agree s n own row f e r a b =
+    let i : suc (r - 1) ≡ r = omega arith in
+    ap (λ w. isName (getD w (r - 1) (neverAt 0) .name)) (e ∙ own-row-is s n own f)
+    ∙ ap (λ x. isName (x .name)) (getD-tabulate largest (entryAt s n (rowPlace n own)) (neverAt 0) (r - 1) (omega (arith, f .n-to)) ∙ ap (entryAt s n (rowPlace n own)) i)
+    ∙ entry-heard s n own r a b
+
+-- The whole list
+
+module _ (s : List ℕ) (n own m : ℕ) (row : List Entry) (d mid out : List ℕ) (end : ℕ) (f : Framed s n own) (i : m ≡ n) (rowIs : row ≡ ownRow s n own)
+    (long : length d ≡ 3 * n) (midlong : length mid ≡ length d) (ends : end ≡ 3 * length (chosen m (heardIn row)))
+    (mids : mid ≡ recordsTo s (length s - (m + m + m)) row m ++ drop end d)
+    (outs : out ≡ take end mid ++ replicate (length mid - end) 0) where
+  yields-at : length s - (m + m + m) ≡ 4 + n * (n + n)
+  yields-at = omega (arith, f .long)
+
+  -- the records written are those of the definition
+  same-records : recordsTo s (length s - (m + m + m)) row m ≡ flatMap (recordOf s n) (chosen m (heardIn row))
+  unfolding recordsTo
+  same-records = ap (λ y. flatMap (recordAt s y) (chosen m (heardIn row))) yields-at
+
+  front : take end mid ≡ flatMap (recordOf s n) (chosen m (heardIn row))
+  front =
+      ap (take end) mids
+      ∙ take-at (recordsTo s (length s - (m + m + m)) row m) (drop end d) end (length-recordsTo s (length s - (m + m + m)) row m ∙ sym ends)
+      ∙ same-records
+
+  pub heard-list : HeardList s n own (end / 3) out
+  heard-list =
+      let third : end / 3 ≡ length (chosen m (heardIn row)) = omega arith in
+      let rest : length mid - end ≡ 3 * n - 3 * (end / 3) = omega arith in
+      record {
+        stalls = chosen m (heardIn row);
+        each-once = λ r.
+            ap (λ k. occurrences r (chosen k (heardIn row))) i
+            ∙ ap (occurrences r) (chosen-agree n (heardIn row) (heardAt s n own) (heard-agree s n own row f rowIs))
+            ∙ occurrences-chosen r n (heardAt s n own);
+        written = outs ∙ ap₂ (λ a k. a ++ replicate k 0) front rest;
+        counted = third;
+      }

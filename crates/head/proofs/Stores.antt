@@ -1,0 +1,46 @@
+-- Stores into a lent run: what stands before a place stays, and the rest is written on from there.
+use Prim.Native.Nat.{ℕ, zero, suc, _+_, _-_, _≤_, _<_}
+use mathlib.Core.Path.{_≡_, refl, sym, ap, _∙_}
+use mathlib.Core.List.{List, [], _∷_, _++_, append-assoc, append-nil}
+use native.Mathlib.Omega.{arith}
+use lib.ListN.{length, take, drop, set, replicate, length-append, length-replicate, replicate-append-replicate, take-append-drop}
+use lib.Seq.{drop-cons, append-snoc, set-append-seam, set-at, sets-eq, length-take-le, drop-length, drop-drop}
+
+-- one byte more behind what is written
+pub store-next : (d p : List ℕ) (i v : ℕ) → length p ≡ i → i < length d → set (p ++ drop i d) i v ≡ p ++ (v ∷ []) ++ drop (suc i) d
+store-next d p i v e l =
+    ap (λ r. set (p ++ r) i v) (drop-cons d i 0 l) ∙ set-at p _ (drop (suc i) d) v i e ∙ sym (append-snoc p v (drop (suc i) d))
+
+-- three bytes at a place
+pub store-three : (d : List ℕ) (at x y z : ℕ) → at + 3 ≤ length d
+    → set (set (set d at x) (at + 1) y) (at + 2) z ≡ take at d ++ (x ∷ y ∷ z ∷ []) ++ drop (at + 3) d
+store-three d at x y z l =
+    let a : at + 1 ≡ suc at = omega arith in
+    let b : at + 2 ≡ suc (suc at) = omega arith in
+    rw (a, b) (sets-eq (x ∷ y ∷ z ∷ []) d at l)
+
+-- zeros from a place on, as far as they are written
+pub cleared : List ℕ → ℕ → ℕ → List ℕ
+cleared d at i = take at d ++ replicate (i - at) 0 ++ drop i d
+
+pub cleared-start : (d : List ℕ) (at : ℕ) → d ≡ cleared d at at
+unfolding cleared
+cleared-start d at =
+    let e : at - at ≡ 0 = omega arith in
+    sym (ap (λ k. take at d ++ replicate k 0 ++ drop at d) e ∙ ap (λ r. r ++ drop at d) (append-nil (take at d)) ∙ take-append-drop at d)
+
+pub cleared-next : (d : List ℕ) (at i : ℕ) → at ≤ i → i < length d → set (cleared d at i) i 0 ≡ cleared d at (i + 1)
+unfolding cleared
+cleared-next d at i a l =
+    let long : length (take at d ++ replicate (i - at) 0) ≡ i =
+    length-append (take at d) (replicate (i - at) 0) ∙ omega (arith, length-take-le at d (omega arith), length-replicate {A = ℕ} (i - at) 0) in
+    let j : i - at + 1 ≡ i + 1 - at = omega arith in
+    let k : suc i ≡ i + 1 = omega arith in
+    store-next d (take at d ++ replicate (i - at) 0) i 0 long l
+    ∙ ap (λ r. r ++ drop (suc i) d) (append-assoc (take at d) (replicate (i - at) 0) (0 ∷ []) ∙ ap (λ r. take at d ++ r) (replicate-append-replicate (i - at) 1 0))
+    ∙ ap (λ m. take at d ++ replicate m 0 ++ drop (suc i) d) j
+    ∙ ap (λ m. take at d ++ replicate (i + 1 - at) 0 ++ drop m d) k
+
+pub cleared-end : (d : List ℕ) (at i : ℕ) → i ≡ length d → cleared d at i ≡ take at d ++ replicate (length d - at) 0
+unfolding cleared
+cleared-end d at i e = rw e (ap (λ r. take at d ++ replicate (length d - at) 0 ++ r) (drop-length d) ∙ append-nil _)

@@ -1,0 +1,24 @@
+-- The heard list of an accepted image into a buffer of the right length.
+use Prim.Native.Nat.{ℕ, _*_, _≤_}
+use mathlib.Core.Path.{_≡_}
+use native.Mathlib.Omega.{arith}
+use borrow.Author.Needs.{needs}
+use Rattle.head.specs.HeardOrder.{heardIn}
+use Rattle.head.proofs.HeardLists.{length-chosen, heard-list}
+use Rattle.head.proofs.heard.heard_list.Statement.{statement}
+use Rattle.head.proofs.heard.heard_list.Tie as tie
+
+pub heard-list-spec : {M : Type 1} → statement M
+heard-list-spec =
+    tie.close
+    (tie.spec
+    (λ c κs. tt)
+    (λ c κs. tt)
+    (λ c. search needs)
+    (λ c. search needs)
+    (λ c. search needs)
+    (λ c κs. search needs)
+    (λ c κs. omega (arith, c .before .before .before .put-records .kept .1 .1 .1 .1 .0, c .before .before .before .put-records .ensures .0, length-chosen (c .before .before .before .before .before .before .wide .result) (heardIn (c .before .before .before .before .before .own-row .result))))
+    (λ c. omega (arith, c .before .before .before .before .before .before .put-records .ensures .0, length-chosen (c .before .before .before .before .before .before .before .before .before .wide .result) (heardIn (c .before .before .before .before .before .before .before .before .own-row .result))))
+    (λ c. search needs)
+    (λ c. heard-list _ _ _ _ _ _ _ _ _ (c .before .before .before .before .before .before .before .before .before .before .before .before .pre .0) (c .before .before .before .before .before .before .before .before .before .wide .ensures .0) (c .before .before .before .before .before .before .before .before .own-row .ensures) (c .before .before .before .before .before .before .before .before .before .before .before .before .pre .1) (c .before .before .before .before .before .before .put-records .kept .1 .1 .1 .1 .0) (c .before .before .before .before .before .before .put-records .ensures .0) (c .before .before .before .before .before .before .put-records .ensures .1) (c .before .before .clear-from .ensures)))
