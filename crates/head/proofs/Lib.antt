@@ -5,3 +5,4 @@ pub mod Stores
 pub mod Records
 pub mod HeardLists
 pub mod HeardCalls
+pub mod Milked

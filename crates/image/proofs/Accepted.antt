@@ -33,7 +33,7 @@ passed : (b : Bool) (k : ℕ) {x : Checked} {h : Header} → cond b (Refused k) 
 passed true k e = absurd (refused-not-good e)
 passed false k e = (refl, e)
 
-not-either : (a b : Bool) → (a || b) ≡ false → (a ≡ false) × (b ≡ false)
+pub not-either : (a b : Bool) → (a || b) ≡ false → (a ≡ false) × (b ≡ false)
 not-either true b e = absurd (true≢false e)
 not-either false b e = (refl, e)
 
