@@ -11,3 +11,4 @@ pub mod Encoding
 pub mod Accepted
 pub mod FreshTable
 pub mod Fill
+pub mod Passing
