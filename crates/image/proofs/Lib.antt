@@ -12,3 +12,4 @@ pub mod Accepted
 pub mod FreshTable
 pub mod Fill
 pub mod Passing
+pub mod NameBytes
