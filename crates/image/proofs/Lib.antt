@@ -13,3 +13,4 @@ pub mod FreshTable
 pub mod Fill
 pub mod Passing
 pub mod NameBytes
+pub mod AcceptedMade
