@@ -13,4 +13,5 @@ pub mod FreshTable
 pub mod Fill
 pub mod Passing
 pub mod NameBytes
+pub mod Made
 pub mod AcceptedMade
