@@ -14,4 +14,5 @@ pub mod Fill
 pub mod Passing
 pub mod NameBytes
 pub mod Made
+pub mod MadeAccepted
 pub mod AcceptedMade
