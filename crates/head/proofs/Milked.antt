@@ -20,9 +20,9 @@ module _ (s : List ℕ) (yield : ℕ) where
   pub milked-current : 4 ≤ length s → currentAt (withCurrent s yield) ≡ yield
   milked-current l =
       let high : getD (withCurrent s yield) 2 0 ≡ yield / 256 =
-          getD-set-other (set s 2 (yield / 256)) 3 2 (yield % 256) 0 (λ e. omega arith) ∙ getD-set-same s 2 (yield / 256) 0 (omega arith) in
+      getD-set-other (set s 2 (yield / 256)) 3 2 (yield % 256) 0 (λ e. omega arith) ∙ getD-set-same s 2 (yield / 256) 0 (omega arith) in
       let low : getD (withCurrent s yield) 3 0 ≡ yield % 256 =
-          getD-set-same (set s 2 (yield / 256)) 3 (yield % 256) 0 (simp length-set (omega arith)) in
+      getD-set-same (set s 2 (yield / 256)) 3 (yield % 256) 0 (simp length-set (omega arith)) in
       ap₂ (λ a b. a * 256 + b) high low ∙ omega arith
 
   pub milked-accepted : {n own : ℕ} → Accepted s n own → yield ≤ yieldLimit → Accepted (withCurrent s yield) n own

@@ -213,7 +213,7 @@ or-left false b e = refl
 none-none : (p l : ℕ) → (eqb p 0 && not (eqb l 0)) ≡ false → p ≡ 0 → l ≡ 0
 none-none p l e i = eqb-true l 0 (not-false (eqb l 0) (ap (λ k. eqb k 0 && not (eqb l 0)) (sym i) ∙ e))
 
-bytes-back : (p l : ℕ) → (p ≡ 0 → l ≡ 0) → nameBytes (nameFrom p l) ≡ p ∷ l ∷ []
+pub bytes-back : (p l : ℕ) → (p ≡ 0 → l ≡ 0) → nameBytes (nameFrom p l) ≡ p ∷ l ∷ []
 unfolding nameFrom
 bytes-back p l e = go (eqb p 0) refl
   where

@@ -12,3 +12,8 @@ pub mod Accepted
 pub mod FreshTable
 pub mod Fill
 pub mod SameBody
+pub mod Passing
+pub mod NameBytes
+pub mod Made
+pub mod MadeAccepted
+pub mod AcceptedMade

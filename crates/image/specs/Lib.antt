@@ -7,3 +7,4 @@ pub mod Check
 pub mod Row
 pub mod Encode
 pub mod Examples
+pub mod Made

@@ -1,0 +1,53 @@
+-- What it is to pass a test, as a statement: `simp passing` turns one into the other.
+use Prim.Native.Nat.{ℕ, zero, suc, _≤_}
+use mathlib.Core.Path.{_≡_, refl, sym, ap₂}
+use mathlib.Core.Bool.{Bool, true, false, _&&_, _||_, not, true≢false, false≢true}
+use mathlib.Core.Logic.{_↔_}
+use native.Mathlib.Omega.{arith}
+use borrow.Author.Tests.{le-ltb, ltb-false, le-leb, leb-true, eq-eqb, eqb-true, ne-eqb, eqb-false}
+use lib.Dec.{leb, ltb, eqb}
+use Rattle.image.specs.Stalls.{some}
+use Rattle.image.proofs.Tables.{none-at}
+
+pub or-fails : (a b : Bool) → ((a || b) ≡ false) ↔ ((a ≡ false) × (b ≡ false))
+or-fails true b = (λ e. absurd (true≢false e), λ e. e .0)
+or-fails false b = (λ e. (refl, e), λ e. e .1)
+
+pub and-fails : (a b : Bool) → ((a && b) ≡ false) ↔ (a ≡ true → b ≡ false)
+and-fails true b = (λ e i. e, λ f. f refl)
+and-fails false b = (λ e i. absurd (false≢true i), λ f. refl)
+
+pub and-holds : (a b : Bool) → ((a && b) ≡ true) ↔ ((a ≡ true) × (b ≡ true))
+and-holds true b = (λ e. (refl, e), λ e. e .1)
+and-holds false b = (λ e. absurd (false≢true e), λ e. e .0)
+
+pub not-fails : (a : Bool) → (not a ≡ false) ↔ (a ≡ true)
+not-fails true = (λ e. refl, λ e. refl)
+not-fails false = (sym, sym)
+
+pub not-holds : (a : Bool) → (not a ≡ true) ↔ (a ≡ false)
+not-holds true = (sym, sym)
+not-holds false = (λ e. refl, λ e. refl)
+
+-- what is at no place is not found
+some-none : (n : ℕ) (f : ℕ → Bool) → ((s : ℕ) → 1 ≤ s → s ≤ n → f s ≡ false) → some n f ≡ false
+unfolding some
+some-none zero f e = refl
+some-none (suc n) f e = ap₂ _||_ (e (suc n) (omega arith) (omega arith)) (some-none n f (λ s a b. e s a (omega arith)))
+
+pub some-fails : (n : ℕ) (f : ℕ → Bool) → (some n f ≡ false) ↔ ((s : ℕ) → 1 ≤ s → s ≤ n → f s ≡ false)
+some-fails n f = (none-at n f, some-none n f)
+
+pub ltb-fails : (a b : ℕ) → (ltb a b ≡ false) ↔ (b ≤ a)
+ltb-fails a b = (ltb-false a b, le-ltb a b)
+
+pub leb-holds : (a b : ℕ) → (leb a b ≡ true) ↔ (a ≤ b)
+leb-holds a b = (leb-true a b, le-leb a b)
+
+pub eqb-holds : (a b : ℕ) → (eqb a b ≡ true) ↔ (a ≡ b)
+eqb-holds a b = (eqb-true a b, eq-eqb a b)
+
+pub eqb-fails : (a b : ℕ) → (eqb a b ≡ false) ↔ (a ≡ b → ⊥)
+eqb-fails a b = (eqb-false a b, ne-eqb a b)
+
+pub ruleset passing = (or-fails, and-fails, and-holds, not-fails, not-holds, some-fails, ltb-fails, leb-holds, eqb-holds, eqb-fails)
