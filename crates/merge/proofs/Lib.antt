@@ -1,0 +1,1 @@
+-- The lemmas of `merge`. What crates above cite is `pub mod`.

@@ -1,0 +1,84 @@
+-- Document 01's meetings to try, by evaluation on images.
+use Prim.Native.Nat.{ℕ, zero, suc}
+use mathlib.Core.Path.{_≡_, refl}
+use mathlib.Core.Bool.{Bool, true, cond}
+use mathlib.Core.List.{List, [], _∷_, _++_}
+use lib.Dec.{eqb}
+use lib.ListN.{getD, set, replicate}
+use Rattle.image.specs.Stalls.{some, each, bits, has}
+use Rattle.image.specs.Layout.{currentAt, markAt, nameFrom, nameAt}
+use Rattle.image.specs.Fresh.{freshImage}
+use Rattle.image.specs.Encode.{Table, encode, tableOf}
+use Rattle.merge.specs.Known.{common, known}
+use Rattle.merge.specs.Verdict.{verdict, undecided}
+use Rattle.merge.specs.Label.{labelUsed, lowestFrom, newLabel}
+use Rattle.merge.specs.Merged.{latestName, mergedNames, mergedYields, mergedOrder, merged, verdictBytes}
+
+-- whoever unfolds this unfolds all that a meeting is computed with
+unfoldable evaluated : Unit {0}
+unfolding some each bits has markAt nameFrom nameAt freshImage encode tableOf common known verdict undecided labelUsed lowestFrom newLabel latestName mergedNames mergedYields mergedOrder merged verdictBytes
+evaluated = tt
+
+-- the images of a parlour, stall 1 first
+abbrev imageOf : List (List ℕ) → ℕ → List ℕ
+imageOf images r = getD ([] ∷ images) r []
+
+fresh : ℕ → ℕ → List (List ℕ)
+fresh zero n = []
+fresh (suc r) n = fresh r n ++ (freshImage n (suc r) ∷ [])
+
+-- what a meeting of p and q leaves
+meet : ℕ → List (List ℕ) → ℕ → ℕ → List (List ℕ)
+unfolding merged encode tableOf
+meet n images p q =
+    let a = tableOf (imageOf images p) n in
+    let b = tableOf (imageOf images q) n in
+    let next = set ([] ∷ images) p (encode n p (merged n p a q b (a .current))) in
+    lib.ListN.drop 1 (set next q (encode n q (merged n p a q b (b .current))))
+
+-- the labels of a list of meetings
+labelsOf : ℕ → List (List ℕ) → List (ℕ × ℕ) → List ℕ
+unfolding meet newLabel tableOf
+labelsOf n images [] = []
+labelsOf n images (m ∷ l) =
+    newLabel n (m .0) (tableOf (imageOf images (m .0)) n) (m .1) (tableOf (imageOf images (m .1)) n)
+    ∷ labelsOf n (meet n images (m .0) (m .1)) l
+
+run : ℕ → List (List ℕ) → List (ℕ × ℕ) → List (List ℕ)
+run n images [] = images
+run n images (m ∷ l) = run n (meet n images (m .0) (m .1)) l
+
+verdictsAfter : ℕ → List (ℕ × ℕ) → ℕ → ℕ → List ℕ
+verdictsAfter n l p q =
+    let images = run n (fresh n n) l in
+    verdictBytes n p (tableOf (imageOf images p) n) q (tableOf (imageOf images q) n)
+
+-- labels 0, 1, 0, 1 and 0, 0, 1, 2, 1
+label-examples : (labelsOf 2 (fresh 2 2) ((1, 2) ∷ (1, 2) ∷ (1, 2) ∷ (1, 2) ∷ []) ≡ 0 ∷ 1 ∷ 0 ∷ 1 ∷ [])
+    × (labelsOf 3 (fresh 3 3) ((1, 2) ∷ (1, 3) ∷ (1, 2) ∷ (1, 2) ∷ (1, 2) ∷ []) ≡ 0 ∷ 0 ∷ 1 ∷ 2 ∷ 1 ∷ [])
+unfolding evaluated fresh meet labelsOf
+label-examples = (refl, refl)
+
+-- example 2.4 of document 003 with both continuations, and N = 4: 1-2, 1-3, 2-4, then 3-4
+verdict-examples : (verdictsAfter 5 ((1, 2) ∷ (1, 3) ∷ (1, 4) ∷ (4, 5) ∷ (2, 5) ∷ (2, 4) ∷ []) 3 5 ≡ 2 ∷ 2 ∷ 0 ∷ 2 ∷ 2 ∷ [])
+    × (verdictsAfter 5 ((1, 2) ∷ (1, 3) ∷ (1, 4) ∷ (4, 5) ∷ (2, 5) ∷ (2, 4) ∷ []) 1 2 ≡ 0 ∷ 2 ∷ 0 ∷ 2 ∷ 2 ∷ [])
+    × (verdictsAfter 4 ((1, 2) ∷ (1, 3) ∷ (2, 4) ∷ []) 3 4 ≡ 1 ∷ 2 ∷ 1 ∷ 2 ∷ [])
+unfolding evaluated fresh meet run verdictsAfter
+verdict-examples = (refl, refl, refl)
+
+-- both images of number 9's example do not belong together
+nine-first : List ℕ
+nine-first = 2 ∷ 1 ∷ 0 ∷ 0 ∷ 2 ∷ 0 ∷ 1 ∷ 0 ∷ 2 ∷ 0 ∷ 1 ∷ 0 ∷ 0 ∷ 0 ∷ 0 ∷ 0 ∷ 3 ∷ 3 ∷ []
+
+nine-second : List ℕ
+nine-second = 2 ∷ 2 ∷ 0 ∷ 0 ∷ 2 ∷ 1 ∷ 1 ∷ 1 ∷ 2 ∷ 1 ∷ 1 ∷ 1 ∷ 0 ∷ 0 ∷ 0 ∷ 0 ∷ 3 ∷ 3 ∷ []
+
+nine-example : undecided 2 1 (tableOf nine-first 2) 2 (tableOf nine-second 2) ≡ true
+unfolding evaluated nine-first nine-second
+nine-example = refl
+
+-- the listing: stall 1 milked with 18, then 1-2 and 2-3: the image of head 3
+listing-example : imageOf (run 3 ((3 ∷ 1 ∷ 0 ∷ 0x12 ∷ replicate 27 0) ∷ freshImage 3 2 ∷ freshImage 3 3 ∷ []) ((1, 2) ∷ (2, 3) ∷ [])) 3
+    ≡ 3 ∷ 3 ∷ 0 ∷ 0 ∷ 2 ∷ 0 ∷ 1 ∷ 0 ∷ 0 ∷ 0 ∷ 2 ∷ 0 ∷ 3 ∷ 0 ∷ 2 ∷ 0 ∷ 2 ∷ 0 ∷ 3 ∷ 0 ∷ 2 ∷ 0 ∷ 0 ∷ 0x12 ∷ 0 ∷ 0 ∷ 0 ∷ 0 ∷ 7 ∷ 6 ∷ 6 ∷ []
+unfolding evaluated meet run
+listing-example = refl

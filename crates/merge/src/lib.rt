@@ -1,0 +1,1 @@
+// From two accepted images to what both hold after a meeting, by value.
