@@ -3,4 +3,5 @@ pub mod Known
 pub mod Verdict
 pub mod Label
 pub mod Merged
+pub mod Body
 pub mod Examples

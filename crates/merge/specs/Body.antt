@@ -1,0 +1,37 @@
+-- What both images hold after a meeting from byte 4 on, said of bytes: for the functions that build and write it. `Merged` says what it means.
+-- s and u are the images of the heads at stalls p and q, v gives the verdict on each stall, and k is the label.
+use Prim.Native.Nat.{ℕ, _+_, _-_, _*_}
+use mathlib.Core.Bool.{Bool, _||_, cond}
+use mathlib.Core.List.{List, [], _∷_, _++_}
+use lib.Dec.{eqb}
+use lib.ListN.{getD, take, drop}
+use Rattle.image.specs.Stalls.{each}
+use Rattle.image.specs.Layout.{rowPlace, yieldPlace}
+
+-- the image that stall r comes from, and the stall of its head
+abbrev pub sourceOf : List ℕ → List ℕ → (ℕ → ℕ) → ℕ → List ℕ
+sourceOf s u v r = cond (eqb (v r) 2) u s
+
+abbrev pub sourceStall : ℕ → ℕ → (ℕ → ℕ) → ℕ → ℕ
+sourceStall p q v r = cond (eqb (v r) 2) q p
+
+-- the two bytes at a place
+abbrev pub pairAt : List ℕ → ℕ → List ℕ
+pairAt s at = getD s at 0 ∷ getD s (at + 1) 0 ∷ []
+
+-- the new list of latests, column by column
+unfoldable pub latestPair : List ℕ → List ℕ → ℕ → ℕ → ℕ → ℕ → (ℕ → ℕ) → ℕ → List ℕ
+latestPair s u n p q k v c =
+    cond (eqb c p) (q ∷ k ∷ [])
+    (cond (eqb c q) (p ∷ k ∷ [])
+    (pairAt (sourceOf s u v c) (rowPlace n (sourceStall p q v c) + (c - 1) * 2)))
+
+-- row r: the new list for the two that met, the row of the supplier for any other
+unfoldable pub bodyRow : List ℕ → List ℕ → ℕ → ℕ → ℕ → ℕ → (ℕ → ℕ) → ℕ → List ℕ
+bodyRow s u n p q k v r =
+    cond (eqb r p || eqb r q) (each n (latestPair s u n p q k v)) (take (n * 2) (drop (rowPlace n r) (sourceOf s u v r)))
+
+-- the yield of stall r: the current one for the two that met
+unfoldable pub bodyYield : List ℕ → List ℕ → ℕ → ℕ → ℕ → (ℕ → ℕ) → ℕ → List ℕ
+bodyYield s u n p q v r =
+    cond (eqb r p) (pairAt s 2) (cond (eqb r q) (pairAt u 2) (pairAt (sourceOf s u v r) (yieldPlace n r)))
