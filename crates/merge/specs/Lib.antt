@@ -1,6 +1,7 @@
 -- What a reader has to believe of `merge`, in this order.
 pub mod Known
 pub mod Verdict
+pub mod Rows
 pub mod Label
 pub mod Merged
 pub mod Body
