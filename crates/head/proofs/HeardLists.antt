@@ -10,15 +10,14 @@ use borrow.Author.Tests.{le-leb, lt-leb, eq-eqb, ne-eqb}
 use lib.Dec.{leb, eqb}
 use lib.ListN.{length, take, drop, getD, replicate, length-append}
 use lib.Seq.{take-at}
-use Rattle.image.specs.Layout.{largest, rowPlace, yieldPlace, nameFrom, heardAt}
+use Rattle.image.specs.Layout.{yieldPlace, partnerAt, labelAt, nameFrom, nameAt, heardAt}
 use Rattle.image.specs.Frame.{Framed}
-use Rattle.image.specs.Row.{tabulate, neverAt, entryAt, ownRow}
+use Rattle.image.specs.Row.{neverAt, ownRow}
 use Rattle.image.specs.declared.Meet.{Meet}
 use Rattle.image.specs.declared.Name.{Name}
 use Rattle.image.specs.declared.Name.the-variants.{Never, With}
 use Rattle.image.specs.declared.Entry.{Entry}
-use Rattle.image.proofs.Places.{row-within}
-use Rattle.image.proofs.Fill.{getD-tabulate}
+use Rattle.image.proofs.OwnRow.{own-row-name}
 use Rattle.head.specs.Heard.{occurrences, recordOf, HeardList}
 use Rattle.head.specs.HeardOrder.{isName, heardIn, chosen, recordAt, recordsTo}
 use Rattle.head.proofs.Records.{length-recordsTo}
@@ -94,21 +93,10 @@ named p l = go (eqb p 0)
     go true = refl
     go false = refl
 
-own-row-is : (s : List ℕ) (n own : ℕ) → Framed s n own → ownRow s n own ≡ tabulate largest (entryAt s n (rowPlace n own))
-unfolding ownRow
-own-row-is s n own f =
-    rw (le-leb n largest (f .n-to), le-leb (rowPlace n own + n * 2) (length s) (omega (arith, f .long, row-within (f .own-from) (f .own-to))))
-
-entry-heard : (s : List ℕ) (n own r : ℕ) → 1 ≤ r → r ≤ n → isName (entryAt s n (rowPlace n own) r .name) ≡ heardAt s n own r
-unfolding entryAt heardAt
-entry-heard s n own r a b = rw (le-leb r n b) (named _ _)
-
 heard-agree : (s : List ℕ) (n own : ℕ) (row : List Entry) → Framed s n own → row ≡ ownRow s n own → (r : ℕ) → 1 ≤ r → r ≤ n → heardIn row r ≡ heardAt s n own r
+unfolding nameAt heardAt
 heard-agree s n own row f e r a b =
-    let i : suc (r - 1) ≡ r = omega arith in
-    ap (λ w. isName (getD w (r - 1) (neverAt 0) .name)) (e ∙ own-row-is s n own f)
-    ∙ ap (λ x. isName (x .name)) (getD-tabulate largest (entryAt s n (rowPlace n own)) (neverAt 0) (r - 1) (omega (arith, f .n-to)) ∙ ap (entryAt s n (rowPlace n own)) i)
-    ∙ entry-heard s n own r a b
+    ap (λ w. heardIn w r) e ∙ ap isName (own-row-name s n own f r a b) ∙ named (partnerAt s n own r) (labelAt s n own r)
 
 -- The whole list
 

@@ -17,3 +17,4 @@ pub mod NameBytes
 pub mod Made
 pub mod MadeAccepted
 pub mod AcceptedMade
+pub mod OwnRow

@@ -94,8 +94,8 @@ module _ (mine theirs : List Entry) (n c : ℕ) (from : 1 ≤ c) (to : c ≤ n) 
 
 -- the same for what the code has looked up
 pub looked-up : (mine theirs : List Entry) (n c : ℕ) (x y z : Name) (d : ℕ) (here there : Bool) → 1 ≤ c → c ≤ n
-  → x ≡ lookIn mine n c → d ≡ partnerIn x → y ≡ lookIn theirs n c → z ≡ lookIn theirs n d
-  → here ≡ sameMeeting c x c y → there ≡ sameMeeting c x d z → (here || there) ≡ common n (nameIn mine) (nameIn theirs) c
+    → x ≡ lookIn mine n c → d ≡ partnerIn x → y ≡ lookIn theirs n c → z ≡ lookIn theirs n d
+    → here ≡ sameMeeting c x c y → there ≡ sameMeeting c x d z → (here || there) ≡ common n (nameIn mine) (nameIn theirs) c
 looked-up mine theirs n c x y z d here there a b e i f g h t =
     let own = e ∙ look-in mine n c a b in
     rw (h, t, f, g, i, own) (two-looks mine theirs n c a b)

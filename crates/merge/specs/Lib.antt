@@ -3,6 +3,7 @@ pub mod Known
 pub mod Verdict
 pub mod Rows
 pub mod Label
+pub mod Judged
 pub mod Merged
 pub mod Body
 pub mod Examples

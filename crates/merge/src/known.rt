@@ -5,16 +5,20 @@ ghost use mathlib.Core.Bool.{_||_, not};
 ghost use lib.Bits.{bitAnd};
 ghost use lib.Dec.{eqb};
 ghost use lib.ListN.{length};
-ghost use Rattle.image.specs.Stalls.{bits};
+ghost use Rattle.image.specs.Stalls.{some, bits};
 ghost use Rattle.image.specs.Layout.{largest};
+ghost use Rattle.image.specs.Frame.{Framed};
+ghost use Rattle.image.specs.Row.{ownRow};
 ghost use Rattle.merge.specs.Known.{isNever, sameMeeting, partnerIn, common};
 ghost use Rattle.merge.specs.Verdict.{sameName, judge};
 ghost use Rattle.merge.specs.Rows.{nameIn, lookIn};
-
+ghost use Rattle.merge.specs.Judged.{byteOf, Judged};
 use image::Entry;
 use image::Name;
 use image::bytes::wide;
 use image::marks::pick;
+use image::marks::widen;
+use image::rows::own_row;
 
 fn is_never(x: Name) -> bool
     ensures { λ r. ⌜ r ≡ isNever x ⌝ }
@@ -35,7 +39,8 @@ fn same_meeting(c: u8, x: Name, d: u8, y: Name) -> bool
             Name::Never => false,
             Name::With(k) => {
                 (m.label == k.label)
-                    & (((c == d) & (m.partner == k.partner)) | ((c == k.partner) & (m.partner == d)))
+                    & (((c == d) & (m.partner == k.partner))
+                        | ((c == k.partner) & (m.partner == d)))
             }
         },
     }
@@ -128,4 +133,77 @@ fn judge(first: bool, second: bool, same: bool) -> u8
         return 1;
     }
     9
+}
+
+// The verdict on one stall, by the names, order bytes and common columns of both.
+fn verdict_at(x: Entry, y: Entry, mine: u64, theirs: u64, set: u64, other: u64) -> u8
+    ensures { λ r.
+        ⌜ r
+        ≡ judge (isNever (x .name) || not (eqb (bitAnd mine set) 0)) (isNever (y .name) || not (eqb (bitAnd theirs other) 0)) (sameName (x .name) (y .name)) ⌝ }
+{
+    let a = x.name;
+    let b = y.name;
+    judge(
+        is_known(a, mine, set),
+        is_known(b, theirs, other),
+        same_name(a, b),
+    )
+}
+
+// The verdicts on all stalls.
+fn judge_all(
+    first: &[u8],
+    second: &[u8],
+    n: u8,
+    p: u8,
+    q: u8,
+    mine: [Entry; 8],
+    theirs: [Entry; 8],
+    set: u64,
+    other: u64,
+) -> [u8; 8]
+    requires { ⌜ Framed (now first) n p × Framed (now second) n q ⌝ }
+    requires { ⌜ (mine ≡ ownRow (now first) n p) × (theirs ≡ ownRow (now second) n q) ⌝ }
+    requires { ⌜ (set ≡ bits n (common n (nameIn mine) (nameIn theirs))) × (other ≡ bits n (common n (nameIn theirs) (nameIn mine))) ⌝ }
+    ensures { λ r. ⌜ Judged (now (first .entry)) (now (second .entry)) n p q n r ⌝ }
+{
+    let mut out = [0u8; 8];
+    let m = wide(n);
+    let mut at = first.len() - m;
+    let mut r = 0usize;
+    while r < m {
+        let x = mine[r];
+        let y = theirs[r];
+        out[r] = verdict_at(x, y, widen(first[at]), widen(second[at]), set, other);
+        at += 1;
+        r += 1;
+    }
+    out
+}
+
+// The verdicts of a meeting.
+pub(crate) fn verdicts(first: &[u8], second: &[u8], n: u8, p: u8, q: u8) -> [u8; 8]
+    requires { ⌜ Framed (now first) n p × Framed (now second) n q ⌝ }
+    ensures { λ r. ⌜ Judged (now (first .entry)) (now (second .entry)) n p q n r ⌝ }
+{
+    let mine = own_row(first, n, p);
+    let theirs = own_row(second, n, q);
+    let set = common_set(mine, theirs, n);
+    let other = common_set(theirs, mine, n);
+    judge_all(first, second, n, p, q, mine, theirs, set, other)
+}
+
+// Some verdict is 9.
+pub(crate) fn is_undecided(out: [u8; 8], n: u8) -> bool
+    requires { ⌜ (n ≤ largest) × (length out ≡ 8) ⌝ }
+    ensures { λ b. ⌜ b ≡ some n (λ r. eqb (byteOf out r) 9) ⌝ }
+{
+    let m = wide(n);
+    let mut found = false;
+    let mut r = 1usize;
+    while r <= m {
+        found = (out[r - 1] == 9) | found;
+        r += 1;
+    }
+    found
 }

@@ -15,6 +15,6 @@ is-common-spec =
     (λ c κs. search needs)
     (λ c κs. tt)
     (λ c.
-      looked-up (c .before .before .before .before .before .before .args .mine) (c .before .before .before .before .before .before .args .theirs) _ _ _ _ _ _ _ _ (c .before .before .before .before .before .before .pre .1) (c .before .before .before .before .before .before .pre .2)
-      (c .before .before .before .before .before .look .ensures) (c .before .before .before .before .partner-of .ensures) (c .before .before .before .look2 .ensures) (c .before .look3 .ensures)
-      (c .before .before .same-meeting .ensures) (c .same-meeting2 .ensures)))
+    looked-up (c .before .before .before .before .before .before .args .mine) (c .before .before .before .before .before .before .args .theirs) _ _ _ _ _ _ _ _ (c .before .before .before .before .before .before .pre .1) (c .before .before .before .before .before .before .pre .2)
+    (c .before .before .before .before .before .look .ensures) (c .before .before .before .before .partner-of .ensures) (c .before .before .before .look2 .ensures) (c .before .look3 .ensures)
+    (c .before .before .same-meeting .ensures) (c .same-meeting2 .ensures)))

@@ -1,0 +1,88 @@
+-- The verdicts that the code finds by masks are those of the tables.
+use Prim.Native.Nat.{ℕ, zero, suc, _+_, _-_, _*_, _≤_, _<_}
+use mathlib.Core.Path.{_≡_, refl, sym, ap, ap₂, subst, _∙_}
+use mathlib.Core.Bool.{Bool, _&&_, _||_, not}
+use mathlib.Core.List.{List, []}
+use native.Mathlib.Omega.{arith}
+use native.Mathlib.Decide.{ℕ-discrete}
+use lib.Bits.{bitAnd}
+use lib.Dec.{eqb}
+use lib.ListN.{length, getD, set, length-set, replicate}
+use lib.Seq.{getD-set-same, getD-set-other}
+use Rattle.image.specs.Stalls.{some, bits, has}
+use Rattle.image.specs.Layout.{orderPlace, orderAt, nameAt, markAt}
+use Rattle.image.specs.Frame.{Framed}
+use Rattle.image.specs.Row.{neverAt, ownRow}
+use Rattle.image.specs.Encode.{Table, tableOf}
+use Rattle.image.specs.declared.Name.{Name}
+use Rattle.image.specs.declared.Entry.{Entry}
+use Rattle.image.proofs.Bits.{common-test}
+use Rattle.image.proofs.Search.{some-agree}
+use Rattle.image.proofs.OwnRow.{own-row-name}
+use Rattle.merge.specs.Known.{isNever, sameMeeting, common, known}
+use Rattle.merge.specs.Verdict.{sameName, judge, verdict}
+use Rattle.merge.specs.Rows.{nameIn}
+use Rattle.merge.specs.Judged.{byteOf, Judged}
+
+-- One head's latest of r is known to the other, by bytes
+
+module _ (s u : List ℕ) (n p q : ℕ) (f : Framed s n p) (g : Framed u n q) (mine theirs : List Entry) (e : mine ≡ ownRow s n p) (i : theirs ≡ ownRow u n q) where
+  pub mine-name : (c : ℕ) → 1 ≤ c → c ≤ n → nameIn mine c ≡ nameAt s n p c
+  mine-name c a b = ap (λ w. nameIn w c) e ∙ own-row-name s n p f c a b
+
+  theirs-name : (c : ℕ) → 1 ≤ c → c ≤ n → nameIn theirs c ≡ nameAt u n q c
+  theirs-name c a b = ap (λ w. nameIn w c) i ∙ own-row-name u n q g c a b
+
+  common-agree : (t : ℕ) → 1 ≤ t → t ≤ n → common n (nameIn mine) (nameIn theirs) t ≡ common n (nameAt s n p) (nameAt u n q) t
+  unfolding common
+  common-agree t a b = some-agree n _ _ (λ d k l. ap₂ (λ x y. sameMeeting t x d y) (mine-name t a b) (theirs-name d k l))
+
+  pub known-bytes : (r order mask : ℕ) → 1 ≤ r → r ≤ n → order ≡ orderAt s n r → mask ≡ bits n (common n (nameIn mine) (nameIn theirs))
+      → (isNever (nameIn mine r) || not (eqb (bitAnd order mask) 0)) ≡ known n (nameAt s n p) (markAt s n r) (nameAt u n q) r
+  unfolding known markAt
+  known-bytes r order mask a b j k =
+      ap₂ _||_ (ap isNever (mine-name r a b))
+      (ap (λ z. not (eqb (bitAnd order z) 0)) k
+      ∙ common-test n order (common n (nameIn mine) (nameIn theirs))
+      ∙ some-agree n _ _ (λ t c d. ap₂ _&&_ (ap (λ z. has z t) j) (common-agree t c d)))
+
+pub verdict-bytes : (s u : List ℕ) (n p q : ℕ) → Framed s n p → Framed u n q → (mine theirs : List Entry) → mine ≡ ownRow s n p → theirs ≡ ownRow u n q
+    → (r order other mask back : ℕ) → 1 ≤ r → r ≤ n → order ≡ orderAt s n r → other ≡ orderAt u n r
+    → mask ≡ bits n (common n (nameIn mine) (nameIn theirs)) → back ≡ bits n (common n (nameIn theirs) (nameIn mine))
+    → judge (isNever (nameIn mine r) || not (eqb (bitAnd order mask) 0)) (isNever (nameIn theirs r) || not (eqb (bitAnd other back) 0)) (sameName (nameIn mine r) (nameIn theirs r))
+    ≡ verdict n p (tableOf s n) q (tableOf u n) r
+unfolding verdict tableOf
+verdict-bytes s u n p q f g mine theirs e i r order other mask back a b j k m w =
+    rw (known-bytes s u n p q f g mine theirs e i r order mask a b j m, known-bytes u s n q p g f theirs mine i e r other back a b k w, mine-name s u n p q f g mine theirs e i r a b, mine-name u s n q p g f theirs mine i e r a b)
+
+-- the same with places that count from 0
+pub verdict-next : (s u : List ℕ) (n p q : ℕ) → Framed s n p → Framed u n q → (mine theirs : List Entry) → mine ≡ ownRow s n p → theirs ≡ ownRow u n q
+    → (r at order other mask back x : ℕ) → r < n → at ≡ orderPlace n (r + 1) → order ≡ getD s at 0 → other ≡ getD u at 0
+    → mask ≡ bits n (common n (nameIn mine) (nameIn theirs)) → back ≡ bits n (common n (nameIn theirs) (nameIn mine))
+    → x ≡ judge (isNever (getD mine r (neverAt 0) .name) || not (eqb (bitAnd order mask) 0)) (isNever (getD theirs r (neverAt 0) .name) || not (eqb (bitAnd other back) 0)) (sameName (getD mine r (neverAt 0) .name) (getD theirs r (neverAt 0) .name))
+    → x ≡ verdict n p (tableOf s n) q (tableOf u n) (suc r)
+verdict-next s u n p q f g mine theirs e i r at order other mask back x l a j k m w d =
+    let down : suc r - 1 ≡ r = omega arith in
+    let place : at ≡ orderPlace n (suc r) = omega arith in
+    d ∙ subst
+    (λ z. judge (isNever (getD mine z (neverAt 0) .name) || not (eqb (bitAnd order mask) 0)) (isNever (getD theirs z (neverAt 0) .name) || not (eqb (bitAnd other back) 0)) (sameName (getD mine z (neverAt 0) .name) (getD theirs z (neverAt 0) .name)) ≡ verdict n p (tableOf s n) q (tableOf u n) (suc r))
+    down
+    (verdict-bytes s u n p q f g mine theirs e i (suc r) order other mask back (omega arith) l (j ∙ ap (λ z. getD s z 0) place) (k ∙ ap (λ z. getD u z 0) place) m w)
+
+-- The verdicts, filled in one after the other
+
+pub judged-start : (s u : List ℕ) (n p q : ℕ) → Judged s u n p q 0 (replicate 8 0)
+judged-start s u n p q = record { long = refl; right = λ r a b. absurd (omega arith) }
+
+pub judged-next : {s u : List ℕ} {n p q m : ℕ} {out : List ℕ} → Judged s u n p q m out → m < 8 → (x : ℕ) → x ≡ verdict n p (tableOf s n) q (tableOf u n) (suc m)
+    → Judged s u n p q (m + 1) (set out m x)
+judged-next {s} {u} {n} {p} {q} {m} {out} w l x e =
+    record {
+      long = length-set out m x ∙ w .long;
+      right = λ r a b. elim (ℕ-discrete r (suc m)) [
+        | yes i ↦
+            let j : r - 1 ≡ m = omega arith in
+            ap (λ k. getD (set out m x) k 0) j ∙ getD-set-same out m x 0 (omega (arith, w .long)) ∙ e ∙ ap (verdict n p (tableOf s n) q (tableOf u n)) (sym i)
+        | no i ↦ getD-set-other out m (r - 1) x 0 (λ j. omega arith) ∙ w .right r a (omega arith)
+      ];
+    }
