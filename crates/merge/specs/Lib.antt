@@ -6,4 +6,5 @@ pub mod Label
 pub mod Judged
 pub mod Merged
 pub mod Body
+pub mod Orders
 pub mod Examples

@@ -1,2 +1,11 @@
 // From two accepted images to what both hold after a meeting, by value.
 pub mod known;
+pub mod orders;
+
+// Stalls by who has them, as sets: the two that met; of the others those that the first has, that the second has, and that the second alone has.
+pub struct Sets {
+    pub pair: u64,
+    pub first: u64,
+    pub second: u64,
+    pub alone: u64,
+}

@@ -1,0 +1,26 @@
+-- Sets of stalls that the order marks are put together from, for the functions that do it. `Merged` says what the marks are.
+-- v gives the verdict on each stall.
+use Prim.Native.Nat.{ℕ}
+use mathlib.Core.Path.{_≡_}
+use mathlib.Core.Bool.{Bool, _&&_, _||_, not, cond}
+use lib.Bits.{bitAnd, bitOr}
+use lib.Dec.{eqb}
+use Rattle.image.specs.Stalls.{bits}
+use Rattle.merge.specs.declared.Sets.{Sets}
+
+-- s is one of the two that met
+abbrev pub isMet : ℕ → ℕ → ℕ → Bool
+isMet p q s = eqb s p || eqb s q
+
+-- the two that met; of the others those that the first has, that the second has, and that the second alone has
+pub record Sorted (n p q : ℕ) (v : ℕ → ℕ) (m : ℕ) (x : Sets) : Type 0 where
+  pub pair-is : x .pair ≡ bits m (isMet p q)
+  pub first-is : x .first ≡ bits m (λ s. not (isMet p q s) && not (eqb (v s) 2))
+  pub second-is : x .second ≡ bits m (λ s. not (isMet p q s) && not (eqb (v s) 1))
+  pub alone-is : x .alone ≡ bits m (λ s. not (isMet p q s) && eqb (v s) 2)
+
+-- the order byte of a stall that did not meet, by its verdict and both order bytes
+abbrev pub orderOf : Sets → ℕ → ℕ → ℕ → Bool → ℕ
+orderOf x v mine theirs heard =
+    bitOr (cond heard (x .pair) 0)
+    (bitOr (bitAnd (cond (not (eqb v 2)) (x .first) 0) mine) (bitAnd (cond (eqb v 1) 0 (cond (eqb v 2) (x .second) (x .alone))) theirs))
