@@ -2,3 +2,4 @@
 pub mod Commons
 pub mod Judging
 pub mod Marks
+pub mod OrderBytes

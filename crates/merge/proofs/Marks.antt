@@ -1,7 +1,7 @@
 -- The order byte that is put together from sets is that of the merged marks.
 use Prim.Native.Nat.{ℕ, _+_, _-_, _^_, _≤_, _<_}
 use mathlib.Core.Path.{_≡_, refl, sym, ap, ap₂, subst, _∙_}
-use mathlib.Core.Bool.{Bool, true, false, _&&_, _||_, not, cond, or-false, and-comm}
+use mathlib.Core.Bool.{Bool, true, false, _&&_, _||_, not, cond, or-false, and-comm, false≢true}
 use native.Mathlib.Omega.{arith}
 use borrow.Author.Tests.{eqb-true, le-leb}
 use lib.Bits.{bitAnd, bitOr, and-le-l, or-lt}
@@ -10,11 +10,16 @@ use lib.Pow.{pow-pos}
 use Rattle.image.specs.Stalls.{bits, has}
 use Rattle.image.specs.Encode.{Table}
 use Rattle.image.proofs.Bits.{has-ext, has-and, has-or, has-zero, has-bits, bits-lt}
+use Rattle.image.proofs.Encoding.{bits-agree}
+use Rattle.image.specs.declared.Meet.{Meet}
+use Rattle.image.specs.declared.Name.{Name}
+use Rattle.image.specs.declared.Name.the-variants.{Never, With}
+use Rattle.merge.specs.Label.{newLabel}
 use Rattle.merge.specs.declared.Sets.{Sets}
 use Rattle.merge.specs.Known.{isNever}
 use Rattle.merge.specs.Verdict.{verdict}
-use Rattle.merge.specs.Merged.{latestName, mergedOrder}
-use Rattle.merge.specs.Orders.{isMet, Sorted, orderOf}
+use Rattle.merge.specs.Merged.{supplier, supplierStall, latestName, mergedOrder}
+use Rattle.merge.specs.Orders.{isMet, Sorted, orderOf, heardFrom}
 
 -- The marks of r, stall by stall: m says that s met, f and g whether the verdict on r is 2 and 1, h and k the same of s, a and b whether the first and the second have
 -- the mark, and d whether r was heard
@@ -109,3 +114,43 @@ module _ (n p : ℕ) (a : Table) (q : ℕ) (b : Table) (v : ℕ → ℕ) (x : Se
       ruled : (s : ℕ) → fromRule (isMet p q s) (eqb (verdict n p a q b r) 2) (eqb (verdict n p a q b r) 1) (eqb (verdict n p a q b s) 2) (eqb (verdict n p a q b s) 1) (a .order r s) (b .order r s) heard
           ≡ mergedOrder n p a q b r s
       ruled s = rw (hh, apart)
+
+-- The order byte of one of the two that met is the set of the two
+
+met-named : (n p : ℕ) (a : Table) (q : ℕ) (b : Table) (r : ℕ) → isMet p q r ≡ true → isNever (latestName n p a q b r) ≡ false
+unfolding latestName
+met-named n p a q b r e = go (eqb r p) (eqb r q) e
+  where
+    go : (f g : Bool) → (f || g) ≡ true
+        → isNever (cond f (With (record { partner = q; label = newLabel n p a q b })) (cond g (With (record { partner = p; label = newLabel n p a q b })) (supplier n p a q b r .names (supplierStall n p a q b r) r))) ≡ false
+    go true g i = refl
+    go false true i = refl
+    go false false i = absurd (false≢true i)
+
+pub met-byte : (n p : ℕ) (a : Table) (q : ℕ) (b : Table) (r : ℕ) → isMet p q r ≡ true → bits n (isMet p q) ≡ bits n (mergedOrder n p a q b r)
+unfolding mergedOrder
+met-byte n p a q b r e = bits-agree n (isMet p q) (mergedOrder n p a q b r) (λ s c d. rw (met-named n p a q b r e, e) (go (isMet p q s)))
+  where
+    go : (m : Bool) → m ≡ cond m true false
+    go true = refl
+    go false = refl
+
+-- A stall that did not meet has the name of the head that it comes from
+
+apart-name : (n p : ℕ) (a : Table) (q : ℕ) (b : Table) (r : ℕ) → isMet p q r ≡ false → latestName n p a q b r ≡ cond (eqb (verdict n p a q b r) 2) (b .names q r) (a .names p r)
+unfolding latestName
+apart-name n p a q b r e = go (eqb r p) (eqb r q) (eqb (verdict n p a q b r) 2) e
+  where
+    go : (f g t : Bool) → (f || g) ≡ false
+        → cond f (With (record { partner = q; label = newLabel n p a q b })) (cond g (With (record { partner = p; label = newLabel n p a q b })) ((cond (not t) a b) .names (cond (not t) p q) r)) ≡ cond t (b .names q r) (a .names p r)
+    go true g t i = absurd (false≢true (sym i))
+    go false true t i = absurd (false≢true (sym i))
+    go false false true i = refl
+    go false false false i = refl
+
+pub heard-is : (n p : ℕ) (a : Table) (q : ℕ) (b : Table) (r : ℕ) → isMet p q r ≡ false → heardFrom (verdict n p a q b r) (a .names p r) (b .names q r) ≡ not (isNever (latestName n p a q b r))
+heard-is n p a q b r e = rw (apart-name n p a q b r e) (go (eqb (verdict n p a q b r) 2))
+  where
+    go : (t : Bool) → cond t (not (isNever (b .names q r))) (not (isNever (a .names p r))) ≡ not (isNever (cond t (b .names q r) (a .names p r)))
+    go true = refl
+    go false = refl

@@ -20,7 +20,7 @@ use image::marks::pick;
 use image::marks::widen;
 use image::rows::own_row;
 
-fn is_never(x: Name) -> bool
+pub(crate) fn is_never(x: Name) -> bool
     ensures { λ r. ⌜ r ≡ isNever x ⌝ }
 {
     match x {

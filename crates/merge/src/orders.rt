@@ -1,15 +1,20 @@
 // The order marks that both heads hold after a meeting. Sets of stalls are numbers.
 ghost use mathlib.Core.Path.{_≡_};
-ghost use Prim.Native.Nat.{_≤_};
+ghost use Prim.Native.Nat.{_%_, _≤_};
 ghost use mathlib.Core.Bool.{cond};
 ghost use lib.Dec.{eqb};
 ghost use lib.ListN.{length};
 ghost use Rattle.image.specs.Layout.{largest};
-ghost use Rattle.merge.specs.Judged.{byteOf};
-ghost use Rattle.merge.specs.Orders.{Sorted, orderOf};
+ghost use Rattle.image.specs.Frame.{Framed};
+ghost use Rattle.image.specs.Row.{ownRow};
+ghost use Rattle.merge.specs.Judged.{byteOf, Judged};
+ghost use Rattle.merge.specs.Orders.{Sorted, orderOf, heardFrom, Ordered};
 use crate::Sets;
+use crate::known::is_never;
+use image::Entry;
 use image::bytes::wide;
 use image::marks::pick;
+use image::marks::widen;
 
 // The stalls by who has them.
 fn sorted(verdicts: [u8; 8], n: u8, p: u8, q: u8) -> Sets
@@ -60,4 +65,68 @@ fn source(x: Sets, v: u8) -> u64
         return x.second;
     }
     x.alone
+}
+
+// A stall that did not meet has been heard by the head that it comes from.
+fn is_heard(v: u8, a: Entry, b: Entry) -> bool
+    ensures { λ r. ⌜ r ≡ heardFrom v (a .name) (b .name) ⌝ }
+{
+    let x = a.name;
+    let y = b.name;
+    if v == 2 {
+        return !is_never(y);
+    }
+    !is_never(x)
+}
+
+// The order byte of a stall.
+fn order_byte(x: Sets, met: bool, v: u8, a: Entry, b: Entry, mine: u64, theirs: u64) -> u8
+    ensures { λ r. ⌜ r ≡ cond met (x .pair) (orderOf x v mine theirs (heardFrom v (a .name) (b .name))) % 256 ⌝ }
+{
+    if met {
+        return (x.pair % 256) as u8;
+    }
+    (order_of(x, v, mine, theirs, is_heard(v, a, b)) % 256) as u8
+}
+
+// The order bytes of all stalls; past n zeros.
+pub(crate) fn merged_orders(
+    first: &[u8],
+    second: &[u8],
+    n: u8,
+    p: u8,
+    q: u8,
+    verdicts: [u8; 8],
+    mine: [Entry; 8],
+    theirs: [Entry; 8],
+    x: Sets,
+) -> [u8; 16]
+    requires { ⌜ Framed (now first) n p × Framed (now second) n q ⌝ }
+    requires { ⌜ (mine ≡ ownRow (now first) n p) × (theirs ≡ ownRow (now second) n q) ⌝ }
+    requires { ⌜ Judged (now first) (now second) n p q n verdicts × Sorted n p q (byteOf verdicts) n x ⌝ }
+    ensures { λ r. ⌜ Ordered (now (first .entry)) (now (second .entry)) n p q n r ⌝ }
+{
+    let mut out = [0u8; 16];
+    let m = wide(n);
+    let mut at = first.len() - m;
+    let mut s = 1u8;
+    let mut r = 0usize;
+    while r < m {
+        let a = mine[r];
+        let b = theirs[r];
+        let met = (s == p) | (s == q);
+        out[r] = order_byte(
+            x,
+            met,
+            verdicts[r],
+            a,
+            b,
+            widen(first[at]),
+            widen(second[at]),
+        );
+        at += 1;
+        s += 1;
+        r += 1;
+    }
+    out
 }

@@ -1,0 +1,80 @@
+-- The order bytes, filled in one after the other.
+use Prim.Native.Nat.{ℕ, suc, _+_, _-_, _*_, _%_, _^_, _≤_, _<_}
+use mathlib.Core.Path.{_≡_, refl, sym, ap, ap₂, subst, _∙_}
+use mathlib.Core.Bool.{Bool, true, false, _&&_, _||_, not, cond}
+use mathlib.Core.List.{List}
+use native.Mathlib.Omega.{arith}
+use native.Mathlib.Decide.{ℕ-discrete}
+use lib.Dec.{eqb}
+use lib.ListN.{length, getD, set, length-set, replicate}
+use lib.Pow.{pow-mono}
+use lib.Seq.{getD-set-same, getD-set-other}
+use Rattle.image.specs.Stalls.{bits, has}
+use Rattle.image.specs.Layout.{largest, orderPlace, orderAt, nameAt, markAt}
+use Rattle.image.specs.Frame.{Framed}
+use Rattle.image.specs.Row.{neverAt, ownRow}
+use Rattle.image.specs.Encode.{Table, tableOf}
+use Rattle.image.specs.declared.Entry.{Entry}
+use Rattle.image.proofs.Bits.{bits-lt}
+use Rattle.image.proofs.OwnRow.{own-row-name}
+use Rattle.merge.specs.declared.Sets.{Sets}
+use Rattle.merge.specs.Known.{isNever}
+use Rattle.merge.specs.Verdict.{verdict}
+use Rattle.merge.specs.Rows.{nameIn}
+use Rattle.merge.specs.Judged.{byteOf, Judged}
+use Rattle.merge.specs.Merged.{latestName, mergedOrder}
+use Rattle.merge.specs.Orders.{isMet, Sorted, orderOf, heardFrom, Ordered}
+use Rattle.merge.proofs.Judging.{mine-name}
+use Rattle.merge.proofs.Marks.{order-byte, met-byte, heard-is}
+
+pub ordered-start : (s u : List ℕ) (n p q : ℕ) → Ordered s u n p q 0 (replicate 16 0)
+ordered-start s u n p q = record { long = refl; right = λ r a b. absurd (omega arith) }
+
+pub ordered-next : {s u : List ℕ} {n p q m : ℕ} {out : List ℕ} → Ordered s u n p q m out → m < 16 → (x : ℕ) → x ≡ bits n (mergedOrder n p (tableOf s n) q (tableOf u n) (suc m))
+    → Ordered s u n p q (m + 1) (set out m x)
+ordered-next {s} {u} {n} {p} {q} {m} {out} w l x e =
+    record {
+      long = length-set out m x ∙ w .long;
+      right = λ r a b. elim (ℕ-discrete r (suc m)) [
+        | yes i ↦
+            let j : r - 1 ≡ m = omega arith in
+            ap (λ k. getD (set out m x) k 0) j ∙ getD-set-same out m x 0 (omega (arith, w .long)) ∙ e ∙ ap (λ k. bits n (mergedOrder n p (tableOf s n) q (tableOf u n) k)) (sym i)
+        | no i ↦ getD-set-other out m (r - 1) x 0 (λ j. omega arith) ∙ w .right r a (omega arith)
+      ];
+    }
+
+-- a set of 1 to n fits a byte
+fits-byte : (n : ℕ) (f : ℕ → Bool) → n ≤ largest → bits n f % 256 ≡ bits n f
+fits-byte n f l =
+    let a : bits n f < 256 = omega (arith, bits-lt n f, pow-mono {i = n} {j = 8} l) in
+    omega arith
+
+module _ (s u : List ℕ) (n p q : ℕ) (f : Framed s n p) (g : Framed u n q) (mine theirs : List Entry) (e : mine ≡ ownRow s n p) (i : theirs ≡ ownRow u n q)
+    (verdicts : List ℕ) (x : Sets) (j : Judged s u n p q n verdicts) (w : Sorted n p q (byteOf verdicts) n x) where
+  -- by whether the stall met
+  by-meeting : (r order other : ℕ) → 1 ≤ r → r ≤ n → order ≡ orderAt s n r → other ≡ orderAt u n r → (m : Bool) → isMet p q r ≡ m
+      → cond m (x .pair) (orderOf x (byteOf verdicts r) order other (heardFrom (byteOf verdicts r) (nameIn mine r) (nameIn theirs r))) ≡ bits n (mergedOrder n p (tableOf s n) q (tableOf u n) r)
+  unfolding tableOf markAt
+  by-meeting r order other a b k l true m = w .pair-is ∙ met-byte n p (tableOf s n) q (tableOf u n) r m
+  by-meeting r order other a b k l false m =
+      order-byte n p (tableOf s n) q (tableOf u n) (byteOf verdicts) x w (j .right) r a b order other _ m
+      (λ t c d. ap (λ z. has z t) k) (λ t c d. ap (λ z. has z t) l)
+      (ap (λ v. heardFrom v (nameIn mine r) (nameIn theirs r)) (j .right r a b)
+      ∙ ap₂ (heardFrom (verdict n p (tableOf s n) q (tableOf u n) r)) (mine-name s u n p q f g mine theirs e i r a b) (mine-name u s n q p g f theirs mine i e r a b)
+      ∙ heard-is n p (tableOf s n) q (tableOf u n) r m)
+
+  -- what the code puts together for stall t, with arrays read at z
+  abbrev made : ℕ → ℕ → ℕ → ℕ → ℕ
+  made order other t z =
+      cond (isMet p q t) (x .pair) (orderOf x (getD verdicts z 0) order other (heardFrom (getD verdicts z 0) (getD mine z (neverAt 0) .name) (getD theirs z (neverAt 0) .name)))
+
+  pub order-next : (r at t order other y : ℕ) → r < n → at ≡ orderPlace n (r + 1) → t ≡ r + 1 → order ≡ getD s at 0 → other ≡ getD u at 0
+      → y ≡ made order other t r % 256 → y ≡ bits n (mergedOrder n p (tableOf s n) q (tableOf u n) (suc r))
+  order-next r at t order other y l a b k m d =
+      let down : r ≡ suc r - 1 = omega arith in
+      let stall : t ≡ suc r = omega arith in
+      let place : at ≡ orderPlace n (suc r) = omega arith in
+      d
+      ∙ ap₂ (λ v z. made order other v z % 256) stall down
+      ∙ ap (λ v. v % 256) (by-meeting (suc r) order other (omega arith) l (k ∙ ap (λ z. getD s z 0) place) (m ∙ ap (λ z. getD u z 0) place) (isMet p q (suc r)) refl)
+      ∙ fits-byte n _ (f .n-to)

@@ -1,0 +1,57 @@
+-- The order bytes of all stalls.
+use Prim.Native.Nat.{ℕ, suc, _+_, _-_, _*_, _≤_, _<_}
+use mathlib.Core.Path.{_≡_, refl, sym, ap, subst, _∙_}
+use mathlib.Core.Bool.{_||_}
+use native.Mathlib.Omega.{arith}
+use lib.Dec.{eqb}
+use Rattle.image.specs.Layout.{orderPlace}
+use Rattle.merge.specs.Orders.{isMet, Ordered}
+use Rattle.merge.proofs.OrderBytes.{ordered-start, ordered-next, order-next}
+use Rattle.merge.proofs.orders.merged_orders.Statement.{statement}
+use Rattle.merge.proofs.orders.merged_orders.Tie as tie
+
+abbrev Inv-loop : tie.InvT-loop
+Inv-loop first second n p q x verdicts mine theirs out₀ m at₀ s₀ r₀ out at s r =
+    Ordered first second n p q r out × (r ≤ m) × (m ≡ n) × (at ≡ orderPlace n (r + 1)) × (s ≡ r + 1)
+
+abbrev μ-loop : tie.MeasureT-loop
+μ-loop first second n p q x verdicts mine theirs out₀ m at₀ s₀ r₀ out at s r = m - r
+
+pub merged-orders-spec : {M : Type 1} → statement M
+merged-orders-spec =
+    tie.close
+    (tie.spec
+    Inv-loop
+    μ-loop
+    (λ c κs. tt)
+    (λ c. omega arith)
+    (λ c. (ordered-start _ _ _ _ _, omega arith, c .wide .ensures .0, omega (arith, c .wide .ensures .0), omega arith))
+    (λ c. omega arith)
+    (λ c. omega arith)
+    (λ c. omega arith)
+    (λ c. omega arith)
+    (λ c. omega arith)
+    (λ c. omega arith)
+    (λ c κs. tt)
+    (λ c. omega arith)
+    (λ c κs. tt)
+    (λ c κs. tt)
+    (λ c. omega arith)
+    (λ c. omega arith)
+    (λ c. omega arith)
+    (λ c. omega arith)
+    (λ c. omega arith)
+    (λ c.
+    let a = c .before .before .before .before .before .before .before .before .before .before .before .before .args in
+    let h = c .before .before .before .before .before .before .before .before .before .before .before .before .pre in
+    let l = c .before .before .before .before .before .before .before .before .loop in (
+      ordered-next (l .inv .0) (omega arith) (c .order-byte .result)
+          (order-next (a .first .now) (a .second .now) (a .n) (a .p) (a .q) (h .0 .0) (h .0 .1) (a .t7) (a .t8) (h .1 .0 .0) (h .1 .0 .1) (a .t6) (a .x) (h .1 .1 .0) (h .1 .1 .1)
+          (l .r) (l .at) (l .s) (c .before .before .before .widen .result) (c .before .widen2 .result) (c .order-byte .result)
+          (omega arith) (l .inv .3) (l .inv .4) (c .before .before .before .widen .ensures .0) (c .before .widen2 .ensures .0) (c .order-byte .ensures)),
+      omega arith,
+      l .inv .2,
+      omega arith,
+      omega arith,
+    ))
+    (λ c. subst (λ k. Ordered (c .before .before .before .before .before .args .first .now) (c .before .before .before .before .before .args .second .now) (c .before .before .before .before .before .args .n) (c .before .before .before .before .before .args .p) (c .before .before .before .before .before .args .q) k (c .before .loop .out)) (let e : c .before .loop .r ≡ c .before .before .before .before .before .args .n = omega arith in e) (c .before .loop .inv .0)))
