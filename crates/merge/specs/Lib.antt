@@ -2,5 +2,6 @@
 pub mod Known
 pub mod Verdict
 pub mod Label
+pub mod LabelSet
 pub mod Merged
 pub mod Examples
