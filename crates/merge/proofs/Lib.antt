@@ -1,2 +1,4 @@
 -- The lemmas of `merge`. What crates above cite is `pub mod`.
 pub mod Lowest
+pub mod LabelSets
+pub mod LabelRows
