@@ -2,3 +2,5 @@
 pub mod Lowest
 pub mod LabelSets
 pub mod LabelRows
+pub mod Counting
+pub mod NewLabel

@@ -47,6 +47,16 @@ lowest-below (suc t) k u j a b = go (u k) refl (lowest-below t (suc k) u j) b
     go true e f l = elim (ℕ-discrete j k) [ yes i ↦ ap u i ∙ e | no i ↦ f (omega arith) l ]
     go false e f l = absurd (omega arith)
 
+-- and it does not, unless all that were tried did
+pub lowest-stops : (t k : ℕ) (u : ℕ → Bool) → lowestFrom t k u < k + t → u (lowestFrom t k u) ≡ false
+unfolding lowestFrom
+lowest-stops zero k u l = absurd (omega arith)
+lowest-stops (suc t) k u l = go (u k) refl (lowest-stops t (suc k) u) l
+  where
+    go : (c : Bool) → u k ≡ c → {x : ℕ} → (x < suc k + t → u x ≡ false) → cond c x k < k + suc t → u (cond c x k) ≡ false
+    go true e f m = f (omega arith)
+    go false e f m = e
+
 -- what is found is the only one that does not pass and has none such below it
 pub lowest-is : (t k m : ℕ) (u : ℕ → Bool) → k ≤ m → m < k + t → ((j : ℕ) → k ≤ j → j < m → u j ≡ true) → u m ≡ false → lowestFrom t k u ≡ m
 unfolding lowestFrom
