@@ -5,8 +5,8 @@ ghost use mathlib.Core.Bool.{_||_};
 ghost use Rattle.image.specs.Stalls.{some};
 ghost use Rattle.image.specs.Layout.{nameFrom};
 ghost use Rattle.image.specs.Encode.{tableOf};
-ghost use Rattle.image.specs.Frame.{Sized};
-ghost use Rattle.merge.specs.Label.{isMeeting, rowHas, lowestFrom};
+ghost use Rattle.image.specs.Frame.{Sized, Framed};
+ghost use Rattle.merge.specs.Label.{isMeeting, rowHas, lowestFrom, newLabel};
 ghost use Rattle.merge.specs.LabelSet.{labelSet, hasLabel, nameHas, Column};
 use image::bytes::wide;
 use image::marks::bit_of;
@@ -54,4 +54,13 @@ fn used_labels(image: &[u8], n: usize, p: u8, q: u8) -> u64
         r += 1;
     }
     set
+}
+
+// The label of the meeting of the stalls p and q, by their images.
+pub(crate) fn new_label(first: &[u8], second: &[u8], n: u8, p: u8, q: u8) -> u8
+    requires { ⌜ Framed (now first) n p × Framed (now second) n q ⌝ }
+    ensures { λ r. ⌜ r ≡ newLabel n p (tableOf (now (first .entry)) n) q (tableOf (now (second .entry)) n) ⌝ }
+{
+    let m = wide(n);
+    lowest_free(used_labels(first, m, p, q) | used_labels(second, m, p, q)) as u8
 }
