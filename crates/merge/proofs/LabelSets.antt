@@ -1,16 +1,16 @@
 -- Sets of labels as numbers.
-use Prim.Native.Nat.{ℕ, zero, suc, _+_, _-_, _*_, _^_, _≤_, _<_}
+use Prim.Native.Nat.{ℕ, zero, suc, _+_, _-_, _^_, _≤_, _<_}
 use mathlib.Core.Path.{_≡_, refl, sym, ap, ap₂, _∙_}
 use mathlib.Core.Bool.{Bool, true, false, _&&_, _||_, cond}
 use native.Mathlib.Omega.{arith}
 use native.Mathlib.Decide.{ℕ-discrete, decLt}
 use borrow.Author.Tests.{eq-eqb, ne-eqb, eqb-true, lt-ltb, le-ltb, le-leb}
-use lib.Dec.{eqb, leb, ltb}
+use lib.Dec.{eqb, ltb}
 use lib.Bits.{bitOr, or-lt}
-use Rattle.image.specs.Stalls.{bits, has, bitOf, some}
+use Rattle.image.specs.Stalls.{bits, has}
 use Rattle.image.specs.Layout.{nameFrom}
 use Rattle.image.specs.declared.Name.the-variants.{Never, With}
-use Rattle.image.proofs.Bits.{has-ext, has-or, has-bits, bits-lt, bitOf-is}
+use Rattle.image.proofs.Bits.{has-ext, has-or, has-bits, bits-lt}
 use Rattle.merge.specs.Label.{isMeeting}
 use Rattle.merge.specs.LabelSet.{labelSet, hasLabel}
 

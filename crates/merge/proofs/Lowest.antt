@@ -1,7 +1,7 @@
 -- The lowest number that does not pass a test, and the zeros below the lowest digit that is set.
-use Prim.Native.Nat.{ℕ, zero, suc, _+_, _-_, _*_, _/_, _%_, _^_, _≤_, _<_}
+use Prim.Native.Nat.{ℕ, zero, suc, _+_, _-_, _/_, _%_, _^_, _≤_, _<_}
 use mathlib.Core.Path.{_≡_, refl, sym, ap, ap₂, _∙_}
-use mathlib.Core.Bool.{Bool, true, false, cond, true≢false}
+use mathlib.Core.Bool.{Bool, true, false, cond}
 use native.Mathlib.Omega.{arith}
 use native.Mathlib.Nat.{pow-succ', div-div-eq-div-mul}
 use native.Mathlib.Decide.{ℕ-discrete}
@@ -19,15 +19,7 @@ lowest-agree zero k u v e = refl
 lowest-agree (suc t) k u v e =
     ap₂ (λ b x. cond b x k) (e k (omega arith) (omega arith)) (lowest-agree t (suc k) u v (λ j a b. e j (omega arith) (omega arith)))
 
-pub lowest-from : (t k : ℕ) (u : ℕ → Bool) → k ≤ lowestFrom t k u
-unfolding lowestFrom
-lowest-from zero k u = omega arith
-lowest-from (suc t) k u = go (u k) (lowest-from t (suc k) u)
-  where
-    go : (b : Bool) {x : ℕ} → suc k ≤ x → k ≤ cond b x k
-    go true l = omega arith
-    go false l = omega arith
-
+-- it is one of the turns, or the last of them
 pub lowest-to : (t k : ℕ) (u : ℕ → Bool) → lowestFrom t k u ≤ k + t
 unfolding lowestFrom
 lowest-to zero k u = omega arith

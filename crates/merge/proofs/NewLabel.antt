@@ -1,9 +1,9 @@
 -- The label of a meeting is free, the lowest that is, and within the limit.
-use Prim.Native.Nat.{ℕ, zero, suc, _+_, _*_, _≤_, _<_}
+use Prim.Native.Nat.{ℕ, zero, suc, _≤_, _<_}
 use mathlib.Core.Path.{_≡_, refl, sym, ap, _∙_}
 use mathlib.Core.Bool.{Bool, true, false, _||_}
 use native.Mathlib.Omega.{arith}
-use native.Mathlib.Decide.{decLt, ℕ-discrete}
+use native.Mathlib.Decide.{decLt}
 use lib.Bits.{bitOr}
 use Rattle.image.specs.Stalls.{some}
 use Rattle.image.specs.Layout.{labelLimit}

@@ -1,6 +1,6 @@
 -- A set of labels as a number, and the labels that a row of an image has.
 use Prim.Native.Nat.{ℕ, _+_, _-_, _*_, _≤_}
-use mathlib.Core.Bool.{Bool, _||_}
+use mathlib.Core.Bool.{Bool}
 use mathlib.Core.List.{List}
 use lib.ListN.{length, getD}
 use Rattle.image.specs.Stalls.{bits, has}

@@ -1,5 +1,5 @@
 -- The labels of the names of a pair in a row.
-use Prim.Native.Nat.{ℕ, _+_, _-_, _*_}
+use Prim.Native.Nat.{ℕ}
 use mathlib.Core.Path.{_≡_, ap, ap₂, _∙_}
 use mathlib.Core.Bool.{_||_}
 use mathlib.Core.List.{List}
@@ -36,7 +36,8 @@ row-labels-spec =
     (λ c. omega arith)
     (λ c. omega arith)
     (λ c κs. search needs)
-    (λ c. both (c .before .before .before .before .before .before .before .before .before .args .image .now) (c .before .before .before .before .before .before .before .before .before .args .row) _ _ _ _ _ _
+    (λ c. let start = c .before .before .before .before .before .before .before .before .before in
+    both (start .args .image .now) (start .args .row) _ _ _ _ _ _
     (c .before .before .before .before .before .before .before .wide .ensures .0)
     (c .before .before .before .before .before .before .wide2 .ensures .0)
     (c .before .before .before .label-of .ensures)

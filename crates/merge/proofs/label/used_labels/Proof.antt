@@ -1,6 +1,6 @@
 -- The labels of the names of a pair in an image.
-use Prim.Native.Nat.{ℕ, _+_, _-_}
-use mathlib.Core.Path.{_≡_, _∙_}
+use Prim.Native.Nat.{_+_, _-_}
+use mathlib.Core.Path.{_∙_}
 use native.Mathlib.Omega.{arith}
 use Rattle.image.specs.Encode.{tableOf}
 use Rattle.image.proofs.Places.{row-within}
@@ -22,9 +22,10 @@ used-labels-spec =
     Inv-loop
     μ-loop
     (λ c. rows-start _ _)
-    (λ c κs. (
-      row-column _ (c .before .before .before .pre .0) (c .before .loop .inv .from) (c .loop-test .taken) (c .before .loop .inv .stands) (c .before .before .before .pre .1) (c .before .before .before .pre .2),
-      row-column _ (c .before .before .before .pre .0) (c .before .loop .inv .from) (c .loop-test .taken) (c .before .loop .inv .stands) (c .before .before .before .pre .3) (c .before .before .before .pre .4),
+    (λ c κs. let i = c .before .loop .inv in
+    let w = c .before .before .before .pre in (
+      row-column _ (w .0) (i .from) (c .loop-test .taken) (i .stands) (w .1) (w .2),
+      row-column _ (w .0) (i .from) (c .loop-test .taken) (i .stands) (w .3) (w .4),
     ))
     (λ c. omega arith)
     (λ c. omega (arith, row-within (c .before .before .loop .inv .from) (c .before .loop-test .taken)))
