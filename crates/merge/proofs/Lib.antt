@@ -3,3 +3,8 @@ pub mod Commons
 pub mod Judging
 pub mod Marks
 pub mod OrderBytes
+pub mod Lowest
+pub mod LabelSets
+pub mod LabelRows
+pub mod Counting
+pub mod NewLabel

@@ -4,6 +4,7 @@ pub mod Verdict
 pub mod Rows
 pub mod Label
 pub mod Judged
+pub mod LabelSet
 pub mod Merged
 pub mod Body
 pub mod Orders

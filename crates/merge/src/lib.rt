@@ -1,5 +1,6 @@
 // From two accepted images to what both hold after a meeting, by value.
 pub mod known;
+pub mod label;
 pub mod orders;
 
 // Stalls by who has them, as sets: the two that met; of the others those that the first has, that the second has, and that the second alone has.

@@ -1,0 +1,68 @@
+-- The label of a meeting is free, the lowest that is, and within the limit.
+use Prim.Native.Nat.{ℕ, zero, suc, _≤_, _<_}
+use mathlib.Core.Path.{_≡_, refl, sym, ap, _∙_}
+use mathlib.Core.Bool.{Bool, true, false, _||_}
+use native.Mathlib.Omega.{arith}
+use native.Mathlib.Decide.{decLt}
+use lib.Bits.{bitOr}
+use Rattle.image.specs.Stalls.{some}
+use Rattle.image.specs.Layout.{labelLimit}
+use Rattle.image.specs.Encode.{Table}
+use Rattle.merge.specs.Label.{rowHas, lowestFrom, labelUsed, newLabel}
+use Rattle.merge.specs.LabelSet.{labelSet, hasLabel}
+use Rattle.merge.proofs.LabelSets.{has-label, set-or}
+use Rattle.merge.proofs.Lowest.{lowest-to, lowest-below, lowest-stops, lowest-is, lowest-agree}
+use Rattle.merge.proofs.Counting.{not-all-used}
+
+module _ (n p : ℕ) (a : Table) (q : ℕ) (b : Table) where
+  pub newLabel-limit : newLabel n p a q b ≤ labelLimit n
+  unfolding newLabel
+  newLabel-limit = omega (arith, lowest-to (labelLimit n) 0 (labelUsed n p a q b))
+
+  pub newLabel-lowest : (k : ℕ) → k < newLabel n p a q b → labelUsed n p a q b k ≡ true
+  unfolding newLabel
+  newLabel-lowest k l = lowest-below (labelLimit n) 0 (labelUsed n p a q b) k (omega arith) l
+
+  newLabel-stops : newLabel n p a q b < labelLimit n → labelUsed n p a q b (newLabel n p a q b) ≡ false
+  unfolding newLabel
+  newLabel-stops l = lowest-stops (labelLimit n) 0 (labelUsed n p a q b) (omega arith)
+
+  pub newLabel-free : labelUsed n p a q b (newLabel n p a q b) ≡ false
+  newLabel-free = go (labelUsed n p a q b (newLabel n p a q b)) refl
+    where
+      go : (t : Bool) → labelUsed n p a q b (newLabel n p a q b) ≡ t → t ≡ false
+      go false e = refl
+      go true e = elim (decLt (newLabel n p a q b) (labelLimit n)) [
+        | yes l ↦ sym e ∙ newLabel-stops l
+        | no l ↦ absurd (not-all-used n p a q b (λ k m. elim (decLt k (newLabel n p a q b)) [
+          | yes i ↦ newLabel-lowest k i
+          | no i ↦ let d : k ≡ newLabel n p a q b = omega (arith, newLabel-limit) in ap (labelUsed n p a q b) d ∙ e
+        ]))
+      ]
+
+  -- turns past the limit find the same
+  pub newLabel-is : (t : ℕ) (u : ℕ → Bool) → labelLimit n < t → ((k : ℕ) → k < t → u k ≡ labelUsed n p a q b k) → lowestFrom t 0 u ≡ newLabel n p a q b
+  newLabel-is t u l e =
+      lowest-agree t 0 u (labelUsed n p a q b) (λ j i m. e j (omega arith))
+      ∙ lowest-is t 0 (newLabel n p a q b) (labelUsed n p a q b) (omega arith) (omega (arith, newLabel-limit)) (λ j i m. newLabel-lowest j m) newLabel-free
+
+-- the labels of both tables
+shuffle : (a b c d : Bool) → ((a || b) || (c || d)) ≡ ((a || c) || (b || d))
+shuffle true b c d = refl
+shuffle false true true d = refl
+shuffle false true false d = refl
+shuffle false false c d = refl
+
+some-or : (n : ℕ) (f g : ℕ → Bool) → (some n f || some n g) ≡ some n (λ r. f r || g r)
+unfolding some
+some-or zero f g = refl
+some-or (suc n) f g = shuffle (f (suc n)) (some n f) (g (suc n)) (some n g) ∙ ap (λ b. (f (suc n) || g (suc n)) || b) (some-or n f g)
+
+pub label-chosen : (n p : ℕ) (a : Table) (q : ℕ) (b : Table) → labelLimit n < 64
+    → lowestFrom 64 0 (hasLabel (bitOr (labelSet (λ k. some n (rowHas p q a k))) (labelSet (λ k. some n (rowHas p q b k))))) ≡ newLabel n p a q b
+unfolding labelUsed
+label-chosen n p a q b l =
+    let f : ℕ → Bool = λ k. some n (rowHas p q a k) in
+    let g : ℕ → Bool = λ k. some n (rowHas p q b k) in
+    newLabel-is n p a q b 64 (hasLabel (bitOr (labelSet f) (labelSet g))) l (λ k m.
+    ap (λ x. hasLabel x k) (set-or f g) ∙ has-label (λ k. f k || g k) k m ∙ some-or n (rowHas p q a k) (rowHas p q b k))
