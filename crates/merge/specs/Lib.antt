@@ -6,6 +6,7 @@ pub mod Label
 pub mod Judged
 pub mod LabelSet
 pub mod Merged
+pub mod Call
 pub mod Body
 pub mod Orders
 pub mod Examples
