@@ -1,1 +1,2 @@
 -- The lemmas of `merge`. What crates above cite is `pub mod`.
+pub mod Copies

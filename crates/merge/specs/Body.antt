@@ -4,7 +4,7 @@ use Prim.Native.Nat.{ℕ, _+_, _-_, _*_}
 use mathlib.Core.Bool.{Bool, _||_, cond}
 use mathlib.Core.List.{List, [], _∷_, _++_}
 use lib.Dec.{eqb}
-use lib.ListN.{getD, take, drop}
+use lib.ListN.{getD, take, drop, replicate}
 use Rattle.image.specs.Stalls.{each}
 use Rattle.image.specs.Layout.{rowPlace, yieldPlace}
 
@@ -35,3 +35,11 @@ bodyRow s u n p q k v r =
 unfoldable pub bodyYield : List ℕ → List ℕ → ℕ → ℕ → ℕ → (ℕ → ℕ) → ℕ → List ℕ
 bodyYield s u n p q v r =
     cond (eqb r p) (pairAt s 2) (cond (eqb r q) (pairAt u 2) (pairAt (sourceOf s u v r) (yieldPlace n r)))
+
+-- two bytes a stall for n stalls, with zeros behind them to 16 bytes
+abbrev pub padded : ℕ → List ℕ → List ℕ
+padded n l = l ++ replicate (16 - n * 2) 0
+
+-- the verdict on stall r in an array of verdicts
+abbrev pub verdictIn : List ℕ → ℕ → ℕ
+verdictIn l r = getD l (r - 1) 0
