@@ -1,2 +1,3 @@
 -- The lemmas of `merge`. What crates above cite is `pub mod`.
 pub mod Copies
+pub mod Pairs

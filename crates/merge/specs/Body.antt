@@ -7,6 +7,8 @@ use lib.Dec.{eqb}
 use lib.ListN.{getD, take, drop, replicate}
 use Rattle.image.specs.Stalls.{each}
 use Rattle.image.specs.Layout.{rowPlace, yieldPlace}
+use Rattle.merge.specs.declared.rows.Pair.{Pair}
+use Rattle.merge.specs.declared.rows.Side.{Side}
 
 -- the image that stall r comes from, and the stall of its head
 abbrev pub sourceOf : List ℕ → List ℕ → (ℕ → ℕ) → ℕ → List ℕ
@@ -43,3 +45,13 @@ padded n l = l ++ replicate (16 - n * 2) 0
 -- the verdict on stall r in an array of verdicts
 abbrev pub verdictIn : List ℕ → ℕ → ℕ
 verdictIn l r = getD l (r - 1) 0
+
+abbrev pub pairBytes : Pair → List ℕ
+pairBytes x = x .high ∷ x .low ∷ []
+
+-- column c of two bytes a stall: a head's own pair in its own column, in any other the pair that stands there in the image that the verdict points to
+unfoldable pub mixedPair : List ℕ → Side → List ℕ → Side → (ℕ → ℕ) → ℕ → List ℕ
+mixedPair s a u b v c =
+    cond (eqb c (a .stall)) (pairBytes (a .own))
+    (cond (eqb c (b .stall)) (pairBytes (b .own))
+    (cond (eqb (v c) 2) (pairAt u (b .at + (c - 1) * 2)) (pairAt s (a .at + (c - 1) * 2))))
