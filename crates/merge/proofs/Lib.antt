@@ -1,3 +1,4 @@
 -- The lemmas of `merge`. What crates above cite is `pub mod`.
 pub mod Copies
 pub mod Pairs
+pub mod Mixing

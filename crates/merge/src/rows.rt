@@ -5,8 +5,11 @@ ghost use mathlib.Core.Bool.{cond};
 ghost use lib.Dec.{eqb};
 ghost use lib.ListN.{length, take, drop, set};
 ghost use Rattle.image.specs.Layout.{largest};
+ghost use Rattle.image.specs.Frame.{Framed};
 ghost use Rattle.image.specs.Stalls.{each};
-ghost use Rattle.merge.specs.Body.{pairAt, pairBytes, padded, verdictIn, mixedPair};
+ghost use Rattle.merge.specs.Body.{pairAt, pairBytes, padded, verdictIn, mixedPair, latestPair};
+use image::bytes::row_place;
+use image::bytes::wide;
 
 // The bytes of n names from a place on.
 pub fn row_of(image: &[u8], at: usize, n: usize) -> [u8; 16]
@@ -98,4 +101,30 @@ pub(crate) fn mixed(
         c += 1;
     }
     row
+}
+
+// The new list of latests, after the meeting of p and q with label k.
+pub fn latest_row(
+    first: &[u8],
+    second: &[u8],
+    n: u8,
+    p: u8,
+    q: u8,
+    k: u8,
+    verdicts: [u8; 8],
+) -> [u8; 16]
+    requires { ⌜ Framed (now first) n p × Framed (now second) n q × (length verdicts ≡ 8) ⌝ }
+    ensures { λ r. ⌜ r ≡ padded n (each n (latestPair (now (first .entry)) (now (second .entry)) n p q k (verdictIn verdicts))) ⌝ }
+{
+    let a = Side {
+        stall: wide(p),
+        at: row_place(n, p),
+        own: Pair { high: q, low: k },
+    };
+    let b = Side {
+        stall: wide(q),
+        at: row_place(n, q),
+        own: Pair { high: p, low: k },
+    };
+    mixed(first, a, second, b, wide(n), verdicts)
 }
