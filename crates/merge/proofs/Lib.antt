@@ -2,3 +2,4 @@
 pub mod Copies
 pub mod Pairs
 pub mod Mixing
+pub mod BodyRows

@@ -1,13 +1,14 @@
 // The rows that both heads hold after a meeting, by value: each as 16 bytes, with zeros behind its names.
 ghost use mathlib.Core.Path.{_≡_};
-ghost use Prim.Native.Nat.{_+_, _-_, _*_, _≤_, _<_};
+ghost use Prim.Native.Nat.{ℕ, _+_, _-_, _*_, _≤_, _<_};
 ghost use mathlib.Core.Bool.{cond};
+ghost use mathlib.Core.List.{[]};
 ghost use lib.Dec.{eqb};
-ghost use lib.ListN.{length, take, drop, set};
+ghost use lib.ListN.{length, take, drop, set, getD};
 ghost use Rattle.image.specs.Layout.{largest};
 ghost use Rattle.image.specs.Frame.{Framed};
 ghost use Rattle.image.specs.Stalls.{each};
-ghost use Rattle.merge.specs.Body.{pairAt, pairBytes, padded, verdictIn, mixedPair, latestPair};
+ghost use Rattle.merge.specs.Body.{pairAt, pairBytes, padded, verdictIn, mixedPair, latestPair, bodyRow};
 use image::bytes::row_place;
 use image::bytes::wide;
 
@@ -25,13 +26,13 @@ pub fn row_of(image: &[u8], at: usize, n: usize) -> [u8; 16]
     row
 }
 
-// The rows with another row at stall r.
-pub fn with_row(rows: [[u8; 16]; 8], r: usize, row: [u8; 16]) -> [[u8; 16]; 8]
-    requires { ⌜ (1 ≤ r) × (r ≤ 8) × (length rows ≡ 8) ⌝ }
-    ensures { λ s. ⌜ s ≡ set rows (r - 1) row ⌝ }
+// The rows with another one at an index.
+fn with_row(rows: [[u8; 16]; 8], i: usize, row: [u8; 16]) -> [[u8; 16]; 8]
+    requires { ⌜ i < 8 ⌝ }
+    ensures { λ r. ⌜ r ≡ set rows i row ⌝ }
 {
     let mut next = rows;
-    next[r - 1] = row;
+    next[i] = row;
     next
 }
 
@@ -127,4 +128,69 @@ pub fn latest_row(
         own: Pair { high: p, low: k },
     };
     mixed(first, a, second, b, wide(n), verdicts)
+}
+
+// The row of a stall, which starts at a place: the new list for one of the two that met.
+fn row_after(
+    first: &[u8],
+    second: &[u8],
+    n: usize,
+    at: usize,
+    met: bool,
+    verdict: u8,
+    latest: [u8; 16],
+) -> [u8; 16]
+    requires { ⌜ (n ≤ largest) × (at + n * 2 ≤ length (now first)) × (at + n * 2 ≤ length (now second)) ⌝ }
+    ensures { λ r.
+        ⌜ r
+        ≡ cond met latest (padded n (take (n * 2) (drop at (cond (eqb verdict 2) (now (second .entry)) (now (first .entry)))))) ⌝ }
+{
+    if met {
+        return latest;
+    }
+    if verdict == 2 {
+        return row_of(second, at, n);
+    }
+    row_of(first, at, n)
+}
+
+// The rows of n stalls after the meeting of p and q with label k.
+pub fn merged_rows(
+    first: &[u8],
+    second: &[u8],
+    n: u8,
+    p: u8,
+    q: u8,
+    k: u8,
+    verdicts: [u8; 8],
+) -> [[u8; 16]; 8]
+    requires { ⌜ Framed (now first) n p × Framed (now second) n q × (length verdicts ≡ 8) ⌝ }
+    ensures { λ s. ⌜ length s ≡ 8 ⌝ }
+    ensures row { λ s.
+        ⌜ ((r : ℕ) → 1 ≤ r → r ≤ n
+        → getD s (r - 1) [] ≡ padded n (bodyRow (now (first .entry)) (now (second .entry)) n p q k (verdictIn verdicts) r)) ⌝ }
+{
+    let m = wide(n);
+    let x = wide(p);
+    let y = wide(q);
+    let latest = latest_row(first, second, n, p, q, k, verdicts);
+    let mut rows = [[0u8; 16]; 8];
+    let mut at = 4usize;
+    let mut c = 0usize;
+    while c < m {
+        let row = row_after(
+            first,
+            second,
+            m,
+            at,
+            (c + 1 == x) | (c + 1 == y),
+            verdicts[c],
+            latest,
+        );
+        let next = with_row(rows, c, row);
+        rows = next;
+        at += m + m;
+        c += 1;
+    }
+    rows
 }
