@@ -3,3 +3,4 @@ pub mod Copies
 pub mod Pairs
 pub mod Mixing
 pub mod BodyRows
+pub mod Written

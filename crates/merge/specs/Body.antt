@@ -42,6 +42,10 @@ bodyYield s u n p q v r =
 abbrev pub padded : ℕ → List ℕ → List ℕ
 padded n l = l ++ replicate (16 - n * 2) 0
 
+-- the bytes of row r in an array of rows by value
+abbrev pub rowIn : List (List ℕ) → ℕ → ℕ → List ℕ
+rowIn rows n r = take (n * 2) (getD rows (r - 1) [])
+
 -- the verdict on stall r in an array of verdicts
 abbrev pub verdictIn : List ℕ → ℕ → ℕ
 verdictIn l r = getD l (r - 1) 0

@@ -13,7 +13,7 @@ use image::bytes::row_place;
 use image::bytes::wide;
 
 // The bytes of n names from a place on.
-pub fn row_of(image: &[u8], at: usize, n: usize) -> [u8; 16]
+pub(crate) fn row_of(image: &[u8], at: usize, n: usize) -> [u8; 16]
     requires { ⌜ (n ≤ largest) × (at + n * 2 ≤ length (now image)) ⌝ }
     ensures { λ r. ⌜ r ≡ padded n (take (n * 2) (drop at (now (image .entry)))) ⌝ }
 {
@@ -105,7 +105,7 @@ pub(crate) fn mixed(
 }
 
 // The new list of latests, after the meeting of p and q with label k.
-pub fn latest_row(
+pub(crate) fn latest_row(
     first: &[u8],
     second: &[u8],
     n: u8,
@@ -155,7 +155,7 @@ fn row_after(
 }
 
 // The rows of n stalls after the meeting of p and q with label k.
-pub fn merged_rows(
+pub(crate) fn merged_rows(
     first: &[u8],
     second: &[u8],
     n: u8,

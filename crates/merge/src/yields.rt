@@ -10,7 +10,7 @@ use crate::rows::pair_at;
 use image::bytes::wide;
 
 // The yields of n stalls, with zeros behind them: for the two that met their current ones.
-pub fn merged_yields(
+pub(crate) fn merged_yields(
     first: &[u8],
     second: &[u8],
     n: u8,
