@@ -4,3 +4,4 @@ pub mod Pairs
 pub mod Mixing
 pub mod BodyRows
 pub mod Written
+pub mod BodyWritten

@@ -1,6 +1,6 @@
 -- The new list of latests, and the yields, as pairs from the head that each verdict points to.
-use Prim.Native.Nat.{ℕ, suc, _+_, _-_, _*_, _≤_}
-use mathlib.Core.Path.{_≡_, refl, sym, ap, ap₂, _∙_}
+use Prim.Native.Nat.{ℕ, _+_, _-_, _*_, _≤_}
+use mathlib.Core.Path.{_≡_, refl, ap, _∙_}
 use mathlib.Core.Bool.{Bool, true, false, cond}
 use mathlib.Core.List.{List, [], _∷_}
 use native.Mathlib.Omega.{arith}
@@ -15,8 +15,8 @@ use Rattle.merge.specs.Body.{pairAt, pairBytes, padded, mixedPair, lates
 use Rattle.merge.proofs.Pairs.{each-agree}
 
 -- the own row lies within the image
-pub row-fits : {s : List ℕ} {n own : ℕ} (at m : ℕ) → Framed s n own → at ≡ rowPlace n own → m ≡ n → at + m * 2 ≤ length s
-row-fits at m w e i = omega (arith, row-within (w .own-from) (w .own-to), w .long)
+pub own-row-fits : {s : List ℕ} {n own : ℕ} (at m : ℕ) → Framed s n own → at ≡ rowPlace n own → m ≡ n → at + m * 2 ≤ length s
+own-row-fits at m w e i = omega (arith, row-within (w .own-from) (w .own-to), w .long)
 
 -- one test for the image and the place
 name-from : (s u : List ℕ) (n p q x : ℕ) (t : Bool) → cond t (pairAt u (rowPlace n q + x)) (pairAt s (rowPlace n p + x)) ≡ pairAt (cond t u s) (rowPlace n (cond t q p) + x)

@@ -1,12 +1,12 @@
 -- Rows of pairs, filled from the front, one pair a stall.
-use Prim.Native.Nat.{ℕ, zero, suc, _+_, _-_, _*_, _≤_, _<_}
-use mathlib.Core.Path.{_≡_, refl, sym, ap, ap₂, subst, _∙_}
+use Prim.Native.Nat.{ℕ, zero, suc, _+_, _-_, _*_, _≤_}
+use mathlib.Core.Path.{_≡_, refl, ap, ap₂, _∙_}
 use mathlib.Core.Bool.{Bool, true, false, cond}
 use mathlib.Core.List.{List, [], _∷_, _++_}
 use native.Mathlib.Omega.{arith}
 use native.Mathlib.Numerals.{add-one}
 use lib.Dec.{eqb}
-use lib.ListN.{length, getD, take, drop, set, replicate, length-append, length-replicate}
+use lib.ListN.{length, getD, drop, set, replicate, length-append, length-replicate}
 use lib.Seq.{sets-eq, take-at, drop-append-add}
 use Rattle.image.specs.Stalls.{each}
 use Rattle.image.proofs.Has.{length-each}
@@ -21,7 +21,7 @@ unfolding each
 each-agree zero f g e = refl
 each-agree (suc n) f g e = ap₂ _++_ (each-agree n f g (λ s a b. e s a (omega arith))) (e (suc n) (omega arith) (omega arith))
 
--- one of three lists
+-- one of two lists of one length
 pub length-choice : (m : ℕ) (x y : List ℕ) (t : Bool) → length x ≡ m → length y ≡ m → length (cond t x y) ≡ m
 length-choice m x y true a b = a
 length-choice m x y false a b = b

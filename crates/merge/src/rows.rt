@@ -178,15 +178,8 @@ pub(crate) fn merged_rows(
     let mut at = 4usize;
     let mut c = 0usize;
     while c < m {
-        let row = row_after(
-            first,
-            second,
-            m,
-            at,
-            (c + 1 == x) | (c + 1 == y),
-            verdicts[c],
-            latest,
-        );
+        let met = (c + 1 == x) | (c + 1 == y);
+        let row = row_after(first, second, m, at, met, verdicts[c], latest);
         let next = with_row(rows, c, row);
         rows = next;
         at += m + m;

@@ -1,9 +1,7 @@
 -- The rows of n stalls after a meeting.
-use Prim.Native.Nat.{ℕ, _+_, _-_, _*_, _≤_, _<_}
+use Prim.Native.Nat.{_+_, _-_, _*_, _≤_}
 use mathlib.Core.Path.{_≡_, refl}
-use mathlib.Core.List.{List}
 use native.Mathlib.Omega.{arith}
-use lib.ListN.{length}
 use Rattle.merge.specs.Body.{padded, verdictIn, bodyRow}
 use Rattle.merge.proofs.BodyRows.{Built, built-next, built-end, row-behind, row-is}
 use Rattle.merge.proofs.rows.merged_rows.Statement.{statement}

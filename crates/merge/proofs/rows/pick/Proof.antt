@@ -1,6 +1,4 @@
 -- The pair of stall c.
-use Prim.Native.Nat.{ℕ, _+_, _<_}
-use mathlib.Core.Path.{_≡_, refl}
 use borrow.Author.Needs.{needs}
 use borrow.Author.Tests.{eq-eqb, ne-eqb}
 use Rattle.merge.proofs.rows.pick.Statement.{statement}

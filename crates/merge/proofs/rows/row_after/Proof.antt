@@ -1,5 +1,4 @@
 -- The row of a stall, which starts at a place.
-use mathlib.Core.Path.{_≡_}
 use borrow.Author.Needs.{needs}
 use borrow.Author.Tests.{eq-eqb, ne-eqb}
 use Rattle.merge.proofs.rows.row_after.Statement.{statement}

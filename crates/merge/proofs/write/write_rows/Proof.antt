@@ -1,9 +1,8 @@
 -- The rows of n stalls.
-use Prim.Native.Nat.{ℕ, suc, _+_, _-_, _*_, _≤_, _<_}
-use mathlib.Core.Path.{_≡_, refl, ap, _∙_}
-use mathlib.Core.List.{List, []}
+use Prim.Native.Nat.{_+_, _-_, _*_, _≤_}
+use mathlib.Core.Path.{_≡_, refl}
 use native.Mathlib.Omega.{arith}
-use lib.ListN.{length, getD, take}
+use lib.ListN.{length}
 use Rattle.merge.specs.Body.{rowIn}
 use Rattle.merge.proofs.Written.{blocks, blocks-start, blocks-end, row-long, row-fits, rows-next}
 use Rattle.merge.proofs.write.write_rows.Statement.{statement}

@@ -1,6 +1,4 @@
 -- The yields of n stalls.
-use Prim.Native.Nat.{ℕ, _+_, _*_}
-use native.Mathlib.Omega.{arith}
 use borrow.Author.Needs.{needs}
 use Rattle.merge.proofs.Written.{yields-written}
 use Rattle.merge.proofs.write.write_yields.Statement.{statement}
