@@ -8,3 +8,9 @@ pub mod LabelSets
 pub mod LabelRows
 pub mod Counting
 pub mod NewLabel
+pub mod Copies
+pub mod Pairs
+pub mod Mixing
+pub mod BodyRows
+pub mod Written
+pub mod BodyWritten

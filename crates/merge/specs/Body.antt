@@ -4,9 +4,11 @@ use Prim.Native.Nat.{ℕ, _+_, _-_, _*_}
 use mathlib.Core.Bool.{Bool, _||_, cond}
 use mathlib.Core.List.{List, [], _∷_, _++_}
 use lib.Dec.{eqb}
-use lib.ListN.{getD, take, drop}
+use lib.ListN.{getD, take, drop, replicate}
 use Rattle.image.specs.Stalls.{each}
 use Rattle.image.specs.Layout.{rowPlace, yieldPlace}
+use Rattle.merge.specs.declared.rows.Pair.{Pair}
+use Rattle.merge.specs.declared.rows.Side.{Side}
 
 -- the image that stall r comes from, and the stall of its head
 abbrev pub sourceOf : List ℕ → List ℕ → (ℕ → ℕ) → ℕ → List ℕ
@@ -35,3 +37,25 @@ bodyRow s u n p q k v r =
 unfoldable pub bodyYield : List ℕ → List ℕ → ℕ → ℕ → ℕ → (ℕ → ℕ) → ℕ → List ℕ
 bodyYield s u n p q v r =
     cond (eqb r p) (pairAt s 2) (cond (eqb r q) (pairAt u 2) (pairAt (sourceOf s u v r) (yieldPlace n r)))
+
+-- two bytes a stall for n stalls, with zeros behind them to 16 bytes
+abbrev pub padded : ℕ → List ℕ → List ℕ
+padded n l = l ++ replicate (16 - n * 2) 0
+
+-- the bytes of row r in an array of rows by value
+abbrev pub rowIn : List (List ℕ) → ℕ → ℕ → List ℕ
+rowIn rows n r = take (n * 2) (getD rows (r - 1) [])
+
+-- the verdict on stall r in an array of verdicts
+abbrev pub verdictIn : List ℕ → ℕ → ℕ
+verdictIn l r = getD l (r - 1) 0
+
+abbrev pub pairBytes : Pair → List ℕ
+pairBytes x = x .high ∷ x .low ∷ []
+
+-- column c of two bytes a stall: a head's own pair in its own column, in any other the pair that stands there in the image that the verdict points to
+unfoldable pub mixedPair : List ℕ → Side → List ℕ → Side → (ℕ → ℕ) → ℕ → List ℕ
+mixedPair s a u b v c =
+    cond (eqb c (a .stall)) (pairBytes (a .own))
+    (cond (eqb c (b .stall)) (pairBytes (b .own))
+    (cond (eqb (v c) 2) (pairAt u (b .at + (c - 1) * 2)) (pairAt s (a .at + (c - 1) * 2))))

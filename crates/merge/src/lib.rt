@@ -2,6 +2,9 @@
 pub mod known;
 pub mod label;
 pub mod orders;
+pub mod rows;
+pub mod write;
+pub mod yields;
 
 // Stalls by who has them, as sets: the two that met; of the others those that the first has, that the second has, and that the second alone has.
 pub struct Sets {

@@ -1,0 +1,90 @@
+-- The rows and yields by value, and the image that they are written into: for the function that writes both.
+use Prim.Native.Nat.{ℕ, _+_, _-_, _*_, _≤_}
+use mathlib.Core.Path.{_≡_, refl, sym, ap, ap₂, _∙_}
+use mathlib.Core.Bool.{_||_}
+use mathlib.Core.List.{List, [], _∷_, _++_}
+use native.Mathlib.Omega.{arith}
+use lib.Dec.{eqb}
+use lib.ListN.{length, getD, take, drop, replicate, length-append, length-drop}
+use lib.Seq.{length-take-le, take-at, drop-append-add, drop-drop}
+use Rattle.image.specs.Stalls.{each}
+use Rattle.image.specs.Layout.{rowPlace, yieldPlace}
+use Rattle.image.specs.Frame.{Sized, Framed}
+use Rattle.image.proofs.Has.{length-each}
+use Rattle.image.proofs.Places.{row-within}
+use Rattle.merge.specs.Body.{sourceOf, sourceStall, pairAt, latestPair, bodyRow, bodyYield, padded, rowIn}
+use Rattle.merge.proofs.Pairs.{each-agree, length-choice, length-padded}
+use Rattle.merge.proofs.Written.{length-each-to}
+
+-- what stands before the zeros
+pub take-padded : (n : ℕ) (l : List ℕ) → length l ≡ n * 2 → take (n * 2) (padded n l) ≡ l
+take-padded n l e = take-at l (replicate (16 - n * 2) 0) (n * 2) e
+
+module _ (s u : List ℕ) (n p q k : ℕ) (v : ℕ → ℕ) where
+  pub latest-wide : (c : ℕ) → length (latestPair s u n p q k v c) ≡ 2
+  unfolding latestPair
+  latest-wide c =
+      length-choice 2 (q ∷ k ∷ []) _ (eqb c p) refl
+      (length-choice 2 (p ∷ k ∷ []) (pairAt (sourceOf s u v c) (rowPlace n (sourceStall p q v c) + (c - 1) * 2)) (eqb c q) refl refl)
+
+  pub yield-wide : (r : ℕ) → length (bodyYield s u n p q v r) ≡ 2
+  unfolding bodyYield
+  yield-wide r =
+      length-choice 2 (pairAt s 2) _ (eqb r p) refl
+      (length-choice 2 (pairAt u 2) (pairAt (sourceOf s u v r) (yieldPlace n r)) (eqb r q) refl refl)
+
+  pub row-wide : Framed s n p → Framed u n q → (r : ℕ) → 1 ≤ r → r ≤ n → length (bodyRow s u n p q k v r) ≡ n * 2
+  unfolding bodyRow
+  row-wide a b r i j =
+      let source = sourceOf s u v r in
+      let long = length-choice (4 + n * (n + n) + n * 2 + n) u s (eqb (v r) 2) (b .long) (a .long) in
+      length-choice (n * 2) (each n (latestPair s u n p q k v)) (take (n * 2) (drop (rowPlace n r) source)) (eqb r p || eqb r q)
+      (length-each 2 (latestPair s u n p q k v) latest-wide n)
+      (length-take-le (n * 2) (drop (rowPlace n r) source) (omega (arith, length-drop (rowPlace n r) source, long, row-within i j)))
+
+  -- rows and yields by value
+  module _ (a : Framed s n p) (b : Framed u n q) (rows : List (List ℕ)) (yields : List ℕ)
+      (rows-are : (r : ℕ) → 1 ≤ r → r ≤ n → getD rows (r - 1) [] ≡ padded n (bodyRow s u n p q k v r)) (yields-are : yields ≡ padded n (each n (bodyYield s u n p q v))) where
+    pub rows-long : (r : ℕ) → 1 ≤ r → r ≤ n → length (getD rows (r - 1) []) ≡ 16
+    rows-long r i j = ap length (rows-are r i j) ∙ length-padded n (bodyRow s u n p q k v r) (a .n-to) (row-wide a b r i j)
+
+    pub yields-long : length yields ≡ 16
+    yields-long = ap length yields-are ∙ length-padded n (each n (bodyYield s u n p q v)) (a .n-to) (length-each 2 (bodyYield s u n p q v) yield-wide n)
+
+    pub rows-in : each n (rowIn rows n) ≡ each n (bodyRow s u n p q k v)
+    rows-in =
+        each-agree n (rowIn rows n) (bodyRow s u n p q k v)
+        (λ r i j. ap (take (n * 2)) (rows-are r i j) ∙ take-padded n (bodyRow s u n p q k v r) (row-wide a b r i j))
+
+    pub yields-in : take (n * 2) yields ≡ each n (bodyYield s u n p q v)
+    yields-in =
+        ap (take (n * 2)) yields-are ∙ take-padded n (each n (bodyYield s u n p q v)) (length-each 2 (bodyYield s u n p q v) yield-wide n)
+
+    -- d with the rows in it is x, and x with the yields in it is y
+    module _ (d x : List ℕ) (sized : Sized d n) (x-is : x ≡ take 4 d ++ each n (rowIn rows n) ++ drop (4 + n * (n + n)) d) where
+      abbrev front : List ℕ
+      front = take 4 d ++ each n (bodyRow s u n p q k v)
+
+      length-front : length front ≡ 4 + n * (n + n)
+      length-front =
+          length-append (take 4 d) (each n (bodyRow s u n p q k v))
+          ∙ omega (arith, length-take-le 4 d (omega (arith, sized .long)), length-each-to (n * 2) (bodyRow s u n p q k v) n (row-wide a b))
+
+      with-rows : x ≡ front ++ drop (4 + n * (n + n)) d
+      with-rows = x-is ∙ ap (λ r. take 4 d ++ r ++ drop (4 + n * (n + n)) d) rows-in
+
+      pub sized-rows : Sized x n
+      sized-rows =
+          record {
+            n-from = sized .n-from;
+            n-to = sized .n-to;
+            long = ap length with-rows ∙ length-append front (drop (4 + n * (n + n)) d) ∙ omega (arith, length-front, length-drop (4 + n * (n + n)) d, sized .long);
+          }
+
+      pub body-written : (y : List ℕ) → y ≡ take (4 + n * (n + n)) x ++ take (n * 2) yields ++ drop (4 + n * (n + n) + n * 2) x
+          → y ≡ take 4 d ++ each n (bodyRow s u n p q k v) ++ each n (bodyYield s u n p q v) ++ drop (4 + n * (n + n) + n * 2) d
+      body-written y y-is =
+          let e : drop (4 + n * (n + n) + n * 2) x ≡ drop (4 + n * (n + n) + n * 2) d =
+          ap₂ (λ j l. drop (j + n * 2) l) (sym length-front) with-rows ∙ drop-append-add front (drop (4 + n * (n + n)) d) (n * 2) ∙ drop-drop (n * 2) (4 + n * (n + n)) d in
+          let f : take (4 + n * (n + n)) x ≡ front = ap (take (4 + n * (n + n))) with-rows ∙ take-at front (drop (4 + n * (n + n)) d) (4 + n * (n + n)) length-front in
+          y-is ∙ rw (e, f, yields-in)

@@ -1,0 +1,42 @@
+-- The pairs of n stalls.
+use Prim.Native.Nat.{ℕ, _-_, _≤_}
+use mathlib.Core.Path.{_≡_, refl, ap, _∙_}
+use mathlib.Core.List.{List}
+use native.Mathlib.Omega.{arith}
+use lib.ListN.{length, length-set}
+use Rattle.image.specs.Stalls.{each}
+use Rattle.merge.specs.Body.{padded, verdictIn, mixedPair}
+use Rattle.merge.proofs.Pairs.{pairs-next, mixed-wide, mixed-at}
+use Rattle.merge.proofs.rows.mixed.Statement.{statement}
+use Rattle.merge.proofs.rows.mixed.Tie as tie
+
+abbrev Inv-loop : tie.InvT-loop
+Inv-loop first a second b n verdicts row₀ c₀ row c = (c ≤ n) × (length row ≡ 16) × (row ≡ padded c (each c (mixedPair first a second b (verdictIn verdicts))))
+
+abbrev μ-loop : tie.MeasureT-loop
+μ-loop first a second b n verdicts row₀ c₀ row c = n - c
+
+whole : (f : ℕ → List ℕ) (row : List ℕ) (c n : ℕ) → c ≤ n → n ≤ c → row ≡ padded c (each c f) → row ≡ padded n (each n f)
+whole f row c n a b e = let j : c ≡ n = omega arith in e ∙ ap (λ k. padded k (each k f)) j
+
+pub mixed-spec : {M : Type 1} → statement M
+unfolding each
+mixed-spec =
+    tie.close
+    (tie.spec
+    Inv-loop
+    μ-loop
+    (λ c. (omega arith, refl, refl))
+    (λ c. omega arith)
+    (λ c. omega arith)
+    (λ c. omega arith)
+    (λ c κs. omega arith)
+    (λ c. omega arith)
+    (λ c. omega arith)
+    (λ c. omega arith)
+    (λ c. omega arith)
+    (λ c. omega arith)
+    (λ c. omega arith)
+    (λ c. omega arith)
+    (λ c. (omega arith, simp length-set (c .before .before .loop .inv .1), pairs-next (mixedPair (c .before .before .before .before .before .args .first .now) (c .before .before .before .before .before .args .a) (c .before .before .before .before .before .args .second .now) (c .before .before .before .before .before .args .b) (verdictIn (c .before .before .before .before .before .args .t6))) (mixed-wide (c .before .before .before .before .before .args .first .now) (c .before .before .before .before .before .args .a) (c .before .before .before .before .before .args .second .now) (c .before .before .before .before .before .args .b) (verdictIn (c .before .before .before .before .before .args .t6))) (c .before .before .loop .row) (c .before .before .loop .c) (c .pick .result .high) (c .pick .result .low) (omega arith) (c .before .before .loop .inv .2) (mixed-at (c .before .before .before .before .before .args .first .now) (c .before .before .before .before .before .args .a) (c .before .before .before .before .before .args .second .now) (c .before .before .before .before .before .args .b) (c .before .before .before .before .before .args .t6) (c .before .before .loop .c) (c .pick .result) (c .pick .ensures))))
+    (λ c. whole (mixedPair (c .before .before .before .before .args .first .now) (c .before .before .before .before .args .a) (c .before .before .before .before .args .second .now) (c .before .before .before .before .args .b) (verdictIn (c .before .before .before .before .args .t6))) (c .before .loop .row) (c .before .loop .c) (c .before .before .before .before .args .n) (omega arith) (omega arith) (c .before .loop .inv .2)))

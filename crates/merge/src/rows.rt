@@ -1,0 +1,189 @@
+// The rows that both heads hold after a meeting, by value: each as 16 bytes, with zeros behind its names.
+ghost use mathlib.Core.Path.{_≡_};
+ghost use Prim.Native.Nat.{ℕ, _+_, _-_, _*_, _≤_, _<_};
+ghost use mathlib.Core.Bool.{cond};
+ghost use mathlib.Core.List.{[]};
+ghost use lib.Dec.{eqb};
+ghost use lib.ListN.{length, take, drop, set, getD};
+ghost use Rattle.image.specs.Layout.{largest};
+ghost use Rattle.image.specs.Frame.{Framed};
+ghost use Rattle.image.specs.Stalls.{each};
+ghost use Rattle.merge.specs.Body.{pairAt, pairBytes, padded, verdictIn, mixedPair, latestPair, bodyRow};
+use image::bytes::row_place;
+use image::bytes::wide;
+
+// The bytes of n names from a place on.
+pub(crate) fn row_of(image: &[u8], at: usize, n: usize) -> [u8; 16]
+    requires { ⌜ (n ≤ largest) × (at + n * 2 ≤ length (now image)) ⌝ }
+    ensures { λ r. ⌜ r ≡ padded n (take (n * 2) (drop at (now (image .entry)))) ⌝ }
+{
+    let mut row = [0u8; 16];
+    let mut i = 0usize;
+    while i < n + n {
+        row[i] = image[at + i];
+        i += 1;
+    }
+    row
+}
+
+// The rows with another one at an index.
+fn with_row(rows: [[u8; 16]; 8], i: usize, row: [u8; 16]) -> [[u8; 16]; 8]
+    requires { ⌜ i < 8 ⌝ }
+    ensures { λ r. ⌜ r ≡ set rows i row ⌝ }
+{
+    let mut next = rows;
+    next[i] = row;
+    next
+}
+
+// Two bytes of an image: a name, or a yield.
+pub struct Pair {
+    pub high: u8,
+    pub low: u8,
+}
+
+// What one head brings to a row of pairs: its stall, the place in its image where such a row starts, and the pair of its own stall.
+pub struct Side {
+    pub stall: usize,
+    pub at: usize,
+    pub own: Pair,
+}
+
+// The pair at a place.
+pub(crate) fn pair_at(image: &[u8], at: usize) -> Pair
+    requires { ⌜ at + 1 < length (now image) ⌝ }
+    ensures { λ r. ⌜ pairBytes r ≡ pairAt (now (image .entry)) at ⌝ }
+{
+    Pair {
+        high: image[at],
+        low: image[at + 1],
+    }
+}
+
+// The pair of stall c, which stands d bytes behind the start of the row.
+fn pick(first: &[u8], a: Side, second: &[u8], b: Side, c: usize, d: usize, verdict: u8) -> Pair
+    requires { ⌜ (a .at + d + 1 < length (now first)) × (b .at + d + 1 < length (now second)) ⌝ }
+    ensures { λ r.
+        ⌜ pairBytes r
+        ≡ cond (eqb c (a .stall)) (pairBytes (a .own))
+        (cond (eqb c (b .stall)) (pairBytes (b .own))
+        (cond (eqb verdict 2) (pairAt (now (second .entry)) (b .at + d)) (pairAt (now (first .entry)) (a .at + d)))) ⌝ }
+{
+    if c == a.stall {
+        return a.own;
+    }
+    if c == b.stall {
+        return b.own;
+    }
+    if verdict == 2 {
+        return pair_at(second, b.at + d);
+    }
+    pair_at(first, a.at + d)
+}
+
+// The pairs of n stalls, each from the head that the verdict on it points to.
+pub(crate) fn mixed(
+    first: &[u8],
+    a: Side,
+    second: &[u8],
+    b: Side,
+    n: usize,
+    verdicts: [u8; 8],
+) -> [u8; 16]
+    requires { ⌜ (n ≤ largest) × (a .at + n * 2 ≤ length (now first)) × (b .at + n * 2 ≤ length (now second)) × (length verdicts ≡ 8) ⌝ }
+    ensures { λ r. ⌜ r ≡ padded n (each n (mixedPair (now (first .entry)) a (now (second .entry)) b (verdictIn verdicts))) ⌝ }
+{
+    let mut row = [0u8; 16];
+    let mut c = 0usize;
+    while c < n {
+        let x = pick(first, a, second, b, c + 1, c + c, verdicts[c]);
+        row[c + c] = x.high;
+        row[c + c + 1] = x.low;
+        c += 1;
+    }
+    row
+}
+
+// The new list of latests, after the meeting of p and q with label k.
+pub(crate) fn latest_row(
+    first: &[u8],
+    second: &[u8],
+    n: u8,
+    p: u8,
+    q: u8,
+    k: u8,
+    verdicts: [u8; 8],
+) -> [u8; 16]
+    requires { ⌜ Framed (now first) n p × Framed (now second) n q × (length verdicts ≡ 8) ⌝ }
+    ensures { λ r. ⌜ r ≡ padded n (each n (latestPair (now (first .entry)) (now (second .entry)) n p q k (verdictIn verdicts))) ⌝ }
+{
+    let a = Side {
+        stall: wide(p),
+        at: row_place(n, p),
+        own: Pair { high: q, low: k },
+    };
+    let b = Side {
+        stall: wide(q),
+        at: row_place(n, q),
+        own: Pair { high: p, low: k },
+    };
+    mixed(first, a, second, b, wide(n), verdicts)
+}
+
+// The row of a stall, which starts at a place: the new list for one of the two that met.
+fn row_after(
+    first: &[u8],
+    second: &[u8],
+    n: usize,
+    at: usize,
+    met: bool,
+    verdict: u8,
+    latest: [u8; 16],
+) -> [u8; 16]
+    requires { ⌜ (n ≤ largest) × (at + n * 2 ≤ length (now first)) × (at + n * 2 ≤ length (now second)) ⌝ }
+    ensures { λ r.
+        ⌜ r
+        ≡ cond met latest (padded n (take (n * 2) (drop at (cond (eqb verdict 2) (now (second .entry)) (now (first .entry)))))) ⌝ }
+{
+    if met {
+        return latest;
+    }
+    if verdict == 2 {
+        return row_of(second, at, n);
+    }
+    row_of(first, at, n)
+}
+
+// The rows of n stalls after the meeting of p and q with label k.
+pub(crate) fn merged_rows(
+    first: &[u8],
+    second: &[u8],
+    n: u8,
+    p: u8,
+    q: u8,
+    k: u8,
+    verdicts: [u8; 8],
+) -> [[u8; 16]; 8]
+    requires { ⌜ Framed (now first) n p × Framed (now second) n q × (length verdicts ≡ 8) ⌝ }
+    ensures { λ s. ⌜ length s ≡ 8 ⌝ }
+    ensures row { λ s.
+        ⌜ ((r : ℕ) → 1 ≤ r → r ≤ n
+        → getD s (r - 1) [] ≡ padded n (bodyRow (now (first .entry)) (now (second .entry)) n p q k (verdictIn verdicts) r)) ⌝ }
+{
+    let m = wide(n);
+    let x = wide(p);
+    let y = wide(q);
+    let latest = latest_row(first, second, n, p, q, k, verdicts);
+    let mut rows = [[0u8; 16]; 8];
+    let mut at = 4usize;
+    let mut c = 0usize;
+    while c < m {
+        let met = (c + 1 == x) | (c + 1 == y);
+        let row = row_after(first, second, m, at, met, verdicts[c], latest);
+        let next = with_row(rows, c, row);
+        rows = next;
+        at += m + m;
+        c += 1;
+    }
+    rows
+}

@@ -1,0 +1,48 @@
+// Rows and yields written into an image.
+ghost use mathlib.Core.Path.{_≡_};
+ghost use Prim.Native.Nat.{ℕ, _+_, _-_, _*_, _≤_};
+ghost use mathlib.Core.List.{[], _++_};
+ghost use lib.ListN.{length, take, drop, getD};
+ghost use Rattle.image.specs.Frame.{Sized};
+ghost use Rattle.image.specs.Stalls.{each};
+ghost use Rattle.merge.specs.Body.{rowIn};
+
+// The first bytes of a row at a place.
+pub(crate) fn write_at(image: &mut [u8], at: usize, count: usize, bytes: [u8; 16])
+    requires { ⌜ (count ≤ 16) × (at + count ≤ length (now image)) × (length bytes ≡ 16) ⌝ }
+    ensures { λ r. ⌜ now (image .exit) ≡ take at (now (image .entry)) ++ take count bytes ++ drop (at + count) (now (image .entry)) ⌝ }
+{
+    let mut i = 0usize;
+    while i < count {
+        image[at + i] = bytes[i];
+        i += 1;
+    }
+}
+
+// The rows of n stalls.
+pub(crate) fn write_rows(image: &mut [u8], n: usize, rows: [[u8; 16]; 8])
+    requires { ⌜ Sized (now image) n × (length rows ≡ 8) × ((r : ℕ) → 1 ≤ r → r ≤ n → length (getD rows (r - 1) []) ≡ 16) ⌝ }
+    ensures { λ r.
+        ⌜ now (image .exit)
+        ≡ take 4 (now (image .entry)) ++ each n (rowIn rows n) ++ drop (4 + n * (n + n)) (now (image .entry)) ⌝ }
+{
+    let mut at = 4usize;
+    let mut c = 0usize;
+    while c < n {
+        let row = rows[c];
+        write_at(image, at, n + n, row);
+        at += n + n;
+        c += 1;
+    }
+}
+
+// The yields of n stalls.
+pub(crate) fn write_yields(image: &mut [u8], n: usize, yields: [u8; 16])
+    requires { ⌜ Sized (now image) n × (length yields ≡ 16) ⌝ }
+    ensures { λ r.
+        ⌜ now (image .exit)
+        ≡ take (4 + n * (n + n)) (now (image .entry)) ++ take (n * 2) yields ++ drop (4 + n * (n + n) + n * 2) (now (image .entry)) ⌝ }
+{
+    let at = image.len() - (n + n + n);
+    write_at(image, at, n + n, yields);
+}

@@ -1,0 +1,36 @@
+// The yields that both heads hold after a meeting, by value.
+ghost use mathlib.Core.Path.{_≡_};
+ghost use lib.ListN.{length};
+ghost use Rattle.image.specs.Frame.{Framed};
+ghost use Rattle.image.specs.Stalls.{each};
+ghost use Rattle.merge.specs.Body.{padded, verdictIn, bodyYield};
+use crate::rows::Side;
+use crate::rows::mixed;
+use crate::rows::pair_at;
+use image::bytes::wide;
+
+// The yields of n stalls, with zeros behind them: for the two that met their current ones.
+pub(crate) fn merged_yields(
+    first: &[u8],
+    second: &[u8],
+    n: u8,
+    p: u8,
+    q: u8,
+    verdicts: [u8; 8],
+) -> [u8; 16]
+    requires { ⌜ Framed (now first) n p × Framed (now second) n q × (length verdicts ≡ 8) ⌝ }
+    ensures { λ r. ⌜ r ≡ padded n (each n (bodyYield (now (first .entry)) (now (second .entry)) n p q (verdictIn verdicts))) ⌝ }
+{
+    let m = wide(n);
+    let a = Side {
+        stall: wide(p),
+        at: first.len() - (m + m + m),
+        own: pair_at(first, 2),
+    };
+    let b = Side {
+        stall: wide(q),
+        at: second.len() - (m + m + m),
+        own: pair_at(second, 2),
+    };
+    mixed(first, a, second, b, m, verdicts)
+}
