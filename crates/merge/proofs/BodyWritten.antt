@@ -1,12 +1,12 @@
--- The rows and yields by value, and the image that they are written into: for the function that writes both.
+-- The rows and yields by value, and the image that they and the order bytes are written into.
 use Prim.Native.Nat.{ℕ, _+_, _-_, _*_, _≤_}
 use mathlib.Core.Path.{_≡_, refl, sym, ap, ap₂, _∙_}
 use mathlib.Core.Bool.{_||_}
-use mathlib.Core.List.{List, [], _∷_, _++_}
+use mathlib.Core.List.{List, [], _∷_, _++_, append-nil}
 use native.Mathlib.Omega.{arith}
 use lib.Dec.{eqb}
 use lib.ListN.{length, getD, take, drop, replicate, length-append, length-drop}
-use lib.Seq.{length-take-le, take-at, drop-append-add, drop-drop}
+use lib.Seq.{length-take-le, take-at, drop-append-add, drop-drop, drop-length}
 use Rattle.image.specs.Stalls.{each}
 use Rattle.image.specs.Layout.{rowPlace, yieldPlace}
 use Rattle.image.specs.Frame.{Sized, Framed}
@@ -60,31 +60,41 @@ module _ (s u : List ℕ) (n p q k : ℕ) (v : ℕ → ℕ) where
     yields-in =
         ap (take (n * 2)) yields-are ∙ take-padded n (each n (bodyYield s u n p q v)) (length-each 2 (bodyYield s u n p q v) yield-wide n)
 
-    -- d with the rows in it is x, and x with the yields in it is y
-    module _ (d x : List ℕ) (sized : Sized d n) (x-is : x ≡ take 4 d ++ each n (rowIn rows n) ++ drop (4 + n * (n + n)) d) where
-      abbrev front : List ℕ
-      front = take 4 d ++ each n (bodyRow s u n p q k v)
+-- what is written behind a front
+pub paste-behind : (front rest l x : List ℕ) (k w : ℕ) → length front ≡ k → l ≡ front ++ rest → take k l ++ x ++ drop (k + w) l ≡ front ++ x ++ drop w rest
+paste-behind front rest l x k w e g =
+    let f : take k l ≡ front = ap (take k) g ∙ take-at front rest k e in
+    let h : drop (k + w) l ≡ drop w rest = ap₂ (λ j m. drop (j + w) m) (sym e) g ∙ drop-append-add front rest w in
+    rw (f, h)
 
-      length-front : length front ≡ 4 + n * (n + n)
-      length-front =
-          length-append (take 4 d) (each n (bodyRow s u n p q k v))
-          ∙ omega (arith, length-take-le 4 d (omega (arith, sized .long)), length-each-to (n * 2) (bodyRow s u n p q k v) n (row-wide a b))
+-- rows, yields and order bytes by value, written into d one after the other: x has the rows, y the yields too, z all
+module _ (d x y : List ℕ) (n : ℕ) (rows : List (List ℕ)) (yields : List ℕ) (sized : Sized d n)
+    (long : (r : ℕ) → 1 ≤ r → r ≤ n → length (getD rows (r - 1) []) ≡ 16) (yields-long : length yields ≡ 16)
+    (x-is : x ≡ take 4 d ++ each n (rowIn rows n) ++ drop (4 + n * (n + n)) d)
+    (y-is : y ≡ take (4 + n * (n + n)) x ++ take (n * 2) yields ++ drop (4 + n * (n + n) + n * 2) x) where
+  abbrev to-yields : List ℕ
+  to-yields = take 4 d ++ each n (rowIn rows n)
 
-      with-rows : x ≡ front ++ drop (4 + n * (n + n)) d
-      with-rows = x-is ∙ ap (λ r. take 4 d ++ r ++ drop (4 + n * (n + n)) d) rows-in
+  abbrev to-orders : List ℕ
+  to-orders = to-yields ++ take (n * 2) yields
 
-      pub sized-rows : Sized x n
-      sized-rows =
-          record {
-            n-from = sized .n-from;
-            n-to = sized .n-to;
-            long = ap length with-rows ∙ length-append front (drop (4 + n * (n + n)) d) ∙ omega (arith, length-front, length-drop (4 + n * (n + n)) d, sized .long);
-          }
+  length-to-yields : length to-yields ≡ 4 + n * (n + n)
+  length-to-yields =
+      length-append (take 4 d) (each n (rowIn rows n))
+      ∙ omega (arith, length-take-le 4 d (omega (arith, sized .long)), length-each-to (n * 2) (rowIn rows n) n (λ r i j. length-take-le (n * 2) (getD rows (r - 1) []) (omega (arith, long r i j, sized .n-to))))
 
-      pub body-written : (y : List ℕ) → y ≡ take (4 + n * (n + n)) x ++ take (n * 2) yields ++ drop (4 + n * (n + n) + n * 2) x
-          → y ≡ take 4 d ++ each n (bodyRow s u n p q k v) ++ each n (bodyYield s u n p q v) ++ drop (4 + n * (n + n) + n * 2) d
-      body-written y y-is =
-          let e : drop (4 + n * (n + n) + n * 2) x ≡ drop (4 + n * (n + n) + n * 2) d =
-          ap₂ (λ j l. drop (j + n * 2) l) (sym length-front) with-rows ∙ drop-append-add front (drop (4 + n * (n + n)) d) (n * 2) ∙ drop-drop (n * 2) (4 + n * (n + n)) d in
-          let f : take (4 + n * (n + n)) x ≡ front = ap (take (4 + n * (n + n))) with-rows ∙ take-at front (drop (4 + n * (n + n)) d) (4 + n * (n + n)) length-front in
-          y-is ∙ rw (e, f, yields-in)
+  length-to-orders : length to-orders ≡ 4 + n * (n + n) + n * 2
+  length-to-orders =
+      length-append to-yields (take (n * 2) yields) ∙ omega (arith, length-to-yields, length-take-le (n * 2) yields (omega (arith, sized .n-to)))
+
+  pub body-written : (z : List ℕ) (at : ℕ) (orders : List ℕ) → at ≡ 4 + n * (n + n) + n * 2 → z ≡ take at y ++ take n orders ++ drop (at + n) y
+      → z ≡ to-orders ++ take n orders
+  body-written z at orders e z-is =
+      let k = 4 + n * (n + n) in
+      let rest = drop (n * 2) (drop k d) in
+      let f : y ≡ to-orders ++ rest = y-is ∙ paste-behind to-yields (drop k d) x (take (n * 2) yields) k (n * 2) length-to-yields x-is in
+      let g : drop n rest ≡ [] = ap (drop n) (drop-drop (n * 2) k d) ∙ drop-drop n (k + n * 2) d ∙ ap (λ j. drop j d) (sym (sized .long)) ∙ drop-length d in
+      z-is
+      ∙ paste-behind to-orders rest y (take n orders) at n (length-to-orders ∙ sym e) f
+      ∙ ap (λ r. to-orders ++ take n orders ++ r) g
+      ∙ append-nil _

@@ -5,8 +5,10 @@ use mathlib.Core.Bool.{Bool, _||_, cond}
 use mathlib.Core.List.{List, [], _∷_, _++_}
 use lib.Dec.{eqb}
 use lib.ListN.{getD, take, drop, replicate}
-use Rattle.image.specs.Stalls.{each}
+use Rattle.image.specs.Stalls.{each, bits}
+use Rattle.image.specs.Encode.{tableOf}
 use Rattle.image.specs.Layout.{rowPlace, yieldPlace}
+use Rattle.merge.specs.Merged.{mergedOrder}
 use Rattle.merge.specs.declared.rows.Pair.{Pair}
 use Rattle.merge.specs.declared.rows.Side.{Side}
 
@@ -59,3 +61,11 @@ mixedPair s a u b v c =
     cond (eqb c (a .stall)) (pairBytes (a .own))
     (cond (eqb c (b .stall)) (pairBytes (b .own))
     (cond (eqb (v c) 2) (pairAt u (b .at + (c - 1) * 2)) (pairAt s (a .at + (c - 1) * 2))))
+
+-- d, the image of a head that met, with rows, yields and order bytes as the meeting leaves them
+abbrev pub imageAfter : List ℕ → List ℕ → List ℕ → ℕ → ℕ → ℕ → ℕ → (ℕ → ℕ) → List ℕ
+imageAfter d s u n p q k v =
+    take 4 d
+    ++ each n (bodyRow s u n p q k v)
+    ++ each n (bodyYield s u n p q v)
+    ++ each n (λ r. bits n (mergedOrder n p (tableOf s n) q (tableOf u n) r) ∷ [])

@@ -1,6 +1,7 @@
 // From two accepted images to what both hold after a meeting, by value.
 pub mod known;
 pub mod label;
+pub mod meeting;
 pub mod orders;
 pub mod rows;
 pub mod write;

@@ -13,6 +13,7 @@ use crate::Sets;
 use crate::known::is_never;
 use image::Entry;
 use image::bytes::wide;
+use image::rows::own_row;
 use image::marks::pick;
 use image::marks::widen;
 
@@ -129,4 +130,22 @@ pub(crate) fn merged_orders(
         r += 1;
     }
     out
+}
+
+// The order bytes after a meeting with these verdicts.
+pub(crate) fn orders_after(
+    first: &[u8],
+    second: &[u8],
+    n: u8,
+    p: u8,
+    q: u8,
+    verdicts: [u8; 8],
+) -> [u8; 16]
+    requires { ⌜ Framed (now first) n p × Framed (now second) n q × Judged (now first) (now second) n p q n verdicts ⌝ }
+    ensures { λ r. ⌜ Ordered (now (first .entry)) (now (second .entry)) n p q n r ⌝ }
+{
+    let mine = own_row(first, n, p);
+    let theirs = own_row(second, n, q);
+    let x = sorted(verdicts, n, p, q);
+    merged_orders(first, second, n, p, q, verdicts, mine, theirs, x)
 }

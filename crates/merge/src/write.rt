@@ -1,4 +1,4 @@
-// Rows and yields written into an image.
+// Rows, yields and order bytes written into an image.
 ghost use mathlib.Core.Path.{_≡_};
 ghost use Prim.Native.Nat.{ℕ, _+_, _-_, _*_, _≤_};
 ghost use mathlib.Core.List.{[], _++_};
@@ -45,4 +45,23 @@ pub(crate) fn write_yields(image: &mut [u8], n: usize, yields: [u8; 16])
 {
     let at = image.len() - (n + n + n);
     write_at(image, at, n + n, yields);
+}
+
+// The rows, yields and order bytes of n stalls.
+pub(crate) fn write_body(
+    image: &mut [u8],
+    n: usize,
+    rows: [[u8; 16]; 8],
+    yields: [u8; 16],
+    orders: [u8; 16],
+)
+    requires { ⌜ Sized (now image) n × (length rows ≡ 8) × ((r : ℕ) → 1 ≤ r → r ≤ n → length (getD rows (r - 1) []) ≡ 16) ⌝ }
+    requires { ⌜ (length yields ≡ 16) × (length orders ≡ 16) ⌝ }
+    ensures { λ r.
+        ⌜ now (image .exit) ≡ take 4 (now (image .entry)) ++ each n (rowIn rows n) ++ take (n * 2) yields ++ take n orders ⌝ }
+{
+    write_rows(image, n, rows);
+    write_yields(image, n, yields);
+    let at = image.len() - n;
+    write_at(image, at, n, orders);
 }

@@ -1,0 +1,18 @@
+-- A list overwritten from the front, element by element.
+use Prim.Native.Nat.{ℕ, _+_, _≤_, _<_}
+use mathlib.Core.Path.{_≡_, ap, _∙_}
+use mathlib.Core.List.{List, [], _∷_, _++_, append-nil}
+use native.Mathlib.Omega.{arith}
+use native.Mathlib.Nat.{zero-add}
+use native.Mathlib.Numerals.{add-one}
+use lib.ListN.{length, getD, take, drop, set}
+use lib.Seq.{paste-suc, drop-length}
+
+-- one byte more
+pub overwrite-next : (d t image : List ℕ) (i : ℕ) → i < length d → i < length t → image ≡ take i t ++ drop i d → set image i (getD t i 0) ≡ take (i + 1) t ++ drop (i + 1) d
+overwrite-next d t image i a b e = rw (add-one, e) (simp zero-add at (paste-suc d 0 t i 0 (omega arith) b))
+
+-- all of them
+pub overwrite-end : (d t image : List ℕ) (i : ℕ) → length d ≤ i → i ≤ length d → image ≡ take i t ++ drop i d → image ≡ take (length d) t
+overwrite-end d t image i a b e =
+    e ∙ ap (λ k. take k t ++ drop k d) (let j : i ≡ length d = omega arith in j) ∙ ap (λ r. take (length d) t ++ r) (drop-length d) ∙ append-nil _
