@@ -27,7 +27,7 @@ pub record Shows (s : List ℕ) (n own : ℕ) (t : Table) : Type 0 where
   pub yields : (r : ℕ) → 1 ≤ r → r ≤ n → Has s (yieldPlace n r) (wordBytes (t .yields r))
   pub order : (r : ℕ) → 1 ≤ r → r ≤ n → Has s (orderPlace n r) (bits n (t .order r) ∷ [])
 
-name-wide : (x : Name) → length (nameBytes x) ≡ 2
+pub name-wide : (x : Name) → length (nameBytes x) ≡ 2
 name-wide Never = refl
 name-wide (With m) = refl
 

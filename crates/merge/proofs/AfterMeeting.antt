@@ -1,0 +1,151 @@
+-- What is written after a meeting is the image of the merged table.
+use Prim.Native.Nat.{ℕ, zero, suc, _-_, _*_, _≤_, _<_}
+use mathlib.Core.Path.{_≡_, refl, sym, ap, ap₂, subst, _∙_}
+use mathlib.Core.Bool.{Bool, true, false, _||_, not, cond}
+use mathlib.Core.List.{List, [], _∷_, _++_}
+use native.Mathlib.Omega.{arith}
+use lib.Dec.{eqb}
+use lib.ListN.{length, getD, take, drop, length-drop}
+use lib.Seq.{length-take-le, take-suc, getD-take, getD-drop, ext-getD}
+use Rattle.image.specs.Stalls.{each, bits}
+use Rattle.image.specs.Layout.{rowPlace, namePlace, yieldPlace}
+use Rattle.image.specs.Encode.{Table, nameBytes, wordBytes, encode, tableOf}
+use Rattle.image.specs.declared.Name.{Name}
+use Rattle.image.specs.declared.Name.the-variants.{Never, With}
+use Rattle.image.proofs.Has.{Has, has-first, each-has, length-each}
+use Rattle.image.proofs.Places.{row-within}
+use Rattle.image.proofs.Encoding.{Shows, name-wide, encode-shows}
+use Rattle.image.proofs.Accepted.{Accepted, accepted-encode}
+use Rattle.merge.specs.Verdict.{verdict}
+use Rattle.merge.specs.Label.{newLabel}
+use Rattle.merge.specs.Merged.{supplier, latestName, mergedNames, mergedYields, mergedOrder, merged, verdictBytes}
+use Rattle.merge.specs.Orders.{Ordered}
+use Rattle.merge.specs.Judged.{Judged}
+use Rattle.merge.specs.Body.{pairAt, latestPair, bodyRow, bodyYield}
+use Rattle.merge.proofs.Pairs.{each-agree}
+
+-- the first bytes of a list, one a stall
+pub take-each : (n : ℕ) (l : List ℕ) (f : ℕ → ℕ) → n ≤ length l → ((r : ℕ) → 1 ≤ r → r ≤ n → getD l (r - 1) 0 ≡ f r) → take n l ≡ each n (λ r. f r ∷ [])
+unfolding each
+take-each zero l f a g = refl
+take-each (suc n) l f a g =
+    let i : n ≡ suc n - 1 = omega arith in
+    take-suc l n 0 a
+    ∙ ap₂ (λ x y. x ++ y ∷ []) (take-each n l f (omega arith) (λ r b c. g r b (omega arith))) (ap (λ j. getD l j 0) i ∙ g (suc n) (omega arith) (omega arith))
+
+pub orders-in : (s u : List ℕ) (n p q : ℕ) (out : List ℕ) → n ≤ 8 → Ordered s u n p q n out
+    → take n out ≡ each n (λ r. bits n (mergedOrder n p (tableOf s n) q (tableOf u n) r) ∷ [])
+orders-in s u n p q out l w = take-each n out (λ r. bits n (mergedOrder n p (tableOf s n) q (tableOf u n) r)) (omega (arith, w .long)) (w .right)
+
+pub verdicts-in : (s u : List ℕ) (n p q : ℕ) (out : List ℕ) → n ≤ 8 → Judged s u n p q n out → take n out ≡ verdictBytes n p (tableOf s n) q (tableOf u n)
+unfolding verdictBytes
+verdicts-in s u n p q out l w = take-each n out (verdict n p (tableOf s n) q (tableOf u n)) (omega (arith, w .long)) (w .right)
+
+-- what holds of both truth values
+both : (P : Bool → Type 0) → P true → P false → (t : Bool) → P t
+both P a b true = a
+both P a b false = b
+
+-- one of two, written as bytes
+choose : {A : Type 0} (h : A → List ℕ) {f g : A} {x y : List ℕ} (t : Bool) → x ≡ h f → y ≡ h g → cond t x y ≡ h (cond t f g)
+choose h true d e = d
+choose h false d e = e
+
+-- bytes that stand in a list are that part of it
+has-part : {d : List ℕ} {i : ℕ} (l : List ℕ) → Has d i l → take (length l) (drop i d) ≡ l
+has-part {d} {i} l h =
+    let long = length-take-le (length l) (drop i d) (omega (arith, h .fits, length-drop i d)) in
+    ext-getD 0 (take (length l) (drop i d)) l long
+    (λ k a.
+    let b : k < length l = omega (arith, long) in
+    getD-take (length l) (drop i d) k 0 b ∙ getD-drop i d k 0 ∙ h .byte k b)
+
+has-pair : {d : List ℕ} {i : ℕ} (x y : ℕ) → Has d i (x ∷ y ∷ []) → pairAt d i ≡ x ∷ y ∷ []
+has-pair x y h = ap₂ (λ a b. a ∷ b ∷ []) (has-first h (omega arith)) (h .byte 1 (omega arith))
+
+has-name : {d : List ℕ} {i : ℕ} (x : Name) → Has d i (nameBytes x) → pairAt d i ≡ nameBytes x
+has-name Never h = has-pair 0 0 h
+has-name (With m) h = has-pair (m .partner) (m .label) h
+
+-- what an accepted image holds, in the words of its table
+module _ (d : List ℕ) (n own : ℕ) (w : Accepted d n own) (bytes : (k : ℕ) → getD d k 0 < 256) where
+  shown : Shows d n own (tableOf d n)
+  shown = subst (λ l. Shows l n own (tableOf d n)) (accepted-encode w bytes) (encode-shows n own (tableOf d n))
+
+  start-part : take 4 d ≡ n ∷ own ∷ wordBytes (tableOf d n .current)
+  start-part = has-part (n ∷ own ∷ wordBytes (tableOf d n .current)) (shown .start)
+
+  current-pair : pairAt d 2 ≡ wordBytes (tableOf d n .current)
+  unfolding tableOf
+  current-pair = ap₂ (λ x y. x ∷ y ∷ []) (shown .start .byte 2 (omega arith)) (shown .start .byte 3 (omega arith))
+
+  name-pair : (r c : ℕ) → 1 ≤ r → r ≤ n → 1 ≤ c → c ≤ n → pairAt d (namePlace n r c) ≡ nameBytes (tableOf d n .names r c)
+  name-pair r c i j k l = has-name (tableOf d n .names r c) (shown .names r c i j k l)
+
+  yield-pair : (r : ℕ) → 1 ≤ r → r ≤ n → pairAt d (yieldPlace n r) ≡ wordBytes (tableOf d n .yields r)
+  yield-pair r i j = has-pair _ _ (shown .yields r i j)
+
+  row-part : (r : ℕ) → 1 ≤ r → r ≤ n → take (n * 2) (drop (rowPlace n r) d) ≡ each n (λ c. nameBytes (tableOf d n .names r c))
+  row-part r i j =
+      let name : ℕ → List ℕ = λ c. nameBytes (tableOf d n .names r c) in
+      let wide : (c : ℕ) → length (name c) ≡ 2 = λ c. name-wide (tableOf d n .names r c) in
+      ap (λ k. take k (drop (rowPlace n r) d)) (sym (length-each 2 name wide n))
+      ∙ has-part (each n name) (each-has 2 name wide n (omega (arith, row-within i j, w .frame .long)) (λ c. shown .names r c i j))
+
+module _ (s u : List ℕ) (n p q : ℕ) (a : Accepted s n p) (b : Accepted u n q) (s-bytes : (k : ℕ) → getD s k 0 < 256) (u-bytes : (k : ℕ) → getD u k 0 < 256)
+    (k : ℕ) (k-is : k ≡ newLabel n p (tableOf s n) q (tableOf u n))
+    (v : ℕ → ℕ) (v-is : (r : ℕ) → 1 ≤ r → r ≤ n → v r ≡ verdict n p (tableOf s n) q (tableOf u n) r) where
+  abbrev first : Table
+  first = tableOf s n
+
+  abbrev second : Table
+  second = tableOf u n
+
+  latest-means : (c : ℕ) → 1 ≤ c → c ≤ n → latestPair s u n p q k v c ≡ nameBytes (latestName n p first q second c)
+  unfolding latestPair latestName
+  latest-means c i j =
+      let rest =
+      both (λ t. pairAt (cond t u s) (namePlace n (cond t q p) c) ≡ nameBytes (cond (not t) first second .names (cond (not t) p q) c))
+      (name-pair u n q b u-bytes q c (b .frame .own-from) (b .frame .own-to) i j)
+      (name-pair s n p a s-bytes p c (a .frame .own-from) (a .frame .own-to) i j)
+      (eqb (verdict n p first q second c) 2) in
+      rw (v-is c i j)
+      (choose nameBytes (eqb c p) (ap (λ j. q ∷ j ∷ []) k-is) (choose nameBytes (eqb c q) (ap (λ j. p ∷ j ∷ []) k-is) rest))
+
+  row-means : (r : ℕ) → 1 ≤ r → r ≤ n → bodyRow s u n p q k v r ≡ each n (λ c. nameBytes (mergedNames n p first q second r c))
+  unfolding bodyRow mergedNames
+  row-means r i j =
+      let rest =
+      both (λ t. take (n * 2) (drop (rowPlace n r) (cond t u s)) ≡ each n (λ c. nameBytes (cond (not t) first second .names r c)))
+      (row-part u n q b u-bytes r i j) (row-part s n p a s-bytes r i j) (eqb (verdict n p first q second r) 2) in
+      let new = each-agree n (latestPair s u n p q k v) (λ c. nameBytes (latestName n p first q second c)) latest-means in
+      rw (v-is r i j)
+      (both (λ t. cond t (each n (latestPair s u n p q k v)) (take (n * 2) (drop (rowPlace n r) (cond (eqb (verdict n p first q second r) 2) u s)))
+      ≡ each n (λ c. nameBytes (cond t (latestName n p first q second c) (supplier n p first q second r .names r c)))) new rest (eqb r p || eqb r q))
+
+  yield-means : (r : ℕ) → 1 ≤ r → r ≤ n → bodyYield s u n p q v r ≡ wordBytes (mergedYields n p first q second r)
+  unfolding bodyYield mergedYields
+  yield-means r i j =
+      let rest =
+      both (λ t. pairAt (cond t u s) (yieldPlace n r) ≡ wordBytes (cond (not t) first second .yields r))
+      (yield-pair u n q b u-bytes r i j) (yield-pair s n p a s-bytes r i j) (eqb (verdict n p first q second r) 2) in
+      rw (v-is r i j)
+      (choose wordBytes (eqb r p) (current-pair s n p a s-bytes) (choose wordBytes (eqb r q) (current-pair u n q b u-bytes) rest))
+
+  -- both images hold the same behind their starts
+  body-means : (start : List ℕ) (own current : ℕ) → start ≡ n ∷ own ∷ wordBytes current
+      → start ++ each n (bodyRow s u n p q k v) ++ each n (bodyYield s u n p q v) ++ each n (λ r. bits n (mergedOrder n p first q second r) ∷ [])
+      ≡ encode n own (merged n p first q second current)
+  unfolding encode merged
+  body-means start own current e =
+      ap (λ l. l ++ each n (λ r. bits n (mergedOrder n p first q second r) ∷ []))
+      (ap₂ _++_ (ap₂ _++_ e (each-agree n (bodyRow s u n p q k v) (λ r. each n (λ c. nameBytes (mergedNames n p first q second r c))) row-means))
+      (each-agree n (bodyYield s u n p q v) (λ r. wordBytes (mergedYields n p first q second r)) yield-means))
+
+  pub first-after : take 4 s ++ each n (bodyRow s u n p q k v) ++ each n (bodyYield s u n p q v) ++ each n (λ r. bits n (mergedOrder n p (tableOf s n) q (tableOf u n) r) ∷ [])
+      ≡ encode n p (merged n p (tableOf s n) q (tableOf u n) (tableOf s n .current))
+  first-after = body-means (take 4 s) p (first .current) (start-part s n p a s-bytes)
+
+  pub second-after : take 4 u ++ each n (bodyRow s u n p q k v) ++ each n (bodyYield s u n p q v) ++ each n (λ r. bits n (mergedOrder n p (tableOf s n) q (tableOf u n) r) ∷ [])
+      ≡ encode n q (merged n p (tableOf s n) q (tableOf u n) (tableOf u n .current))
+  second-after = body-means (take 4 u) q (second .current) (start-part u n q b u-bytes)
