@@ -15,3 +15,5 @@ pub mod BodyRows
 pub mod Written
 pub mod BodyWritten
 pub mod AfterMeeting
+pub mod MeetingWritten
+pub mod Together

@@ -1,4 +1,6 @@
 use borrow.Author.Needs.{needs}
+use Rattle.merge.specs.Body.{verdictIn}
+use Rattle.merge.proofs.MeetingWritten.{may-write, was-written}
 use Rattle.merge.proofs.meeting.write_meeting.Statement.{statement}
 use Rattle.merge.proofs.meeting.write_meeting.Tie as tie
 use Rattle.merge.proofs.meeting.write_meeting.Reads as reads
@@ -32,11 +34,11 @@ orders-after-requires c κs = search needs
 
 -- src/meeting.rt:46:5
 write-body-requires : tie.Need-write-body-requires
-write-body-requires c κs = ?
+write-body-requires c κs = may-write (c .before .before .before .before .before .before .before .before .before .before .before .before .before .before .before .before .args .first .now) (c .before .before .before .before .before .before .before .before .before .before .before .before .before .before .before .before .args .second .now) (c .before .before .before .before .before .before .before .before .before .before .before .before .before .before .before .before .args .n) (c .before .before .before .before .before .before .before .before .before .before .before .before .before .before .before .before .args .p) (c .before .before .before .before .before .before .before .before .before .before .before .before .before .before .before .before .args .q) (c .before .before .before .before .before .before .before .before .before .before .new-label .result) (verdictIn (c .before .before .before .before .before .before .before .before .before .before .before .before .before .before .before .before .args .verdicts)) (c .before .before .before .before .before .before .before .before .before .before .before .before .before .before .before .before .pre .0) (c .before .before .before .before .before .before .before .before .before .before .before .before .before .before .before .before .pre .1) (c .before .before .before .before .before .before .before .merged-rows .result) (c .before .before .before .before .merged-yields .result) (c .before .orders-after .result) (c .before .before .before .before .before .before .before .merged-rows .ensures .1) (c .before .before .before .before .merged-yields .ensures) (c .before .orders-after .ensures) (c .before .before .before .before .before .before .before .before .before .before .before .before .before .wide .result) (c .before .before .before .before .before .before .before .before .before .before .before .before .before .wide .ensures .0) (c .before .before .before .before .before .before .before .before .before .before .before .before .before .before .before .before .args .first .now) (c .before .before .before .before .before .before .before .before .before .before .before .before .before .before .before .before .args .p) (c .before .before .before .before .before .before .before .before .before .before .before .before .before .before .before .before .pre .0) (c .before .before .before .before .before .before .before .merged-rows .ensures .0)
 
 -- src/meeting.rt:47:5
 write-body-requires-2 : tie.Need-write-body-requires-2
-write-body-requires-2 c κs = ?
+write-body-requires-2 c κs = may-write (c .before .before .before .before .before .before .before .before .before .before .before .before .before .before .before .before .before .before .before .before .args .first .now) (c .before .before .before .before .before .before .before .before .before .before .before .before .before .before .before .before .before .before .before .before .args .second .now) (c .before .before .before .before .before .before .before .before .before .before .before .before .before .before .before .before .before .before .before .before .args .n) (c .before .before .before .before .before .before .before .before .before .before .before .before .before .before .before .before .before .before .before .before .args .p) (c .before .before .before .before .before .before .before .before .before .before .before .before .before .before .before .before .before .before .before .before .args .q) (c .before .before .before .before .before .before .before .before .before .before .before .before .before .before .new-label .result) (verdictIn (c .before .before .before .before .before .before .before .before .before .before .before .before .before .before .before .before .before .before .before .before .args .verdicts)) (c .before .before .before .before .before .before .before .before .before .before .before .before .before .before .before .before .before .before .before .before .pre .0) (c .before .before .before .before .before .before .before .before .before .before .before .before .before .before .before .before .before .before .before .before .pre .1) (c .before .before .before .before .before .before .before .before .before .before .before .merged-rows .result) (c .before .before .before .before .before .before .before .before .merged-yields .result) (c .before .before .before .before .before .orders-after .result) (c .before .before .before .before .before .before .before .before .before .before .before .merged-rows .ensures .1) (c .before .before .before .before .before .before .before .before .merged-yields .ensures) (c .before .before .before .before .before .orders-after .ensures) (c .before .before .before .before .before .before .before .before .before .before .before .before .before .before .before .before .before .wide .result) (c .before .before .before .before .before .before .before .before .before .before .before .before .before .before .before .before .before .wide .ensures .0) (c .before .before .before .before .before .before .before .before .before .before .before .before .before .before .before .before .before .before .before .before .args .second .now) (c .before .before .before .before .before .before .before .before .before .before .before .before .before .before .before .before .before .before .before .before .args .q) (c .before .before .before .before .before .before .before .before .before .before .before .before .before .before .before .before .before .before .before .before .pre .1) (c .before .before .before .before .before .before .before .before .before .before .before .merged-rows .ensures .0)
 
 -- src/meeting.rt:25:1
 same-length : tie.Need-same-length
@@ -48,7 +50,7 @@ same-length-2 c = search needs
 
 -- src/meeting.rt:25:1
 returns : tie.Need-returns
-returns c = ?
+returns c = (c .before .before .before .before .before .before .before .before .before .before .before .before .before .before .before .before .before .new-label .ensures, was-written (c .before .before .before .before .before .before .before .before .before .before .before .before .before .before .before .before .before .before .before .before .before .before .before .args .first .now) (c .before .before .before .before .before .before .before .before .before .before .before .before .before .before .before .before .before .before .before .before .before .before .before .args .second .now) (c .before .before .before .before .before .before .before .before .before .before .before .before .before .before .before .before .before .before .before .before .before .before .before .args .n) (c .before .before .before .before .before .before .before .before .before .before .before .before .before .before .before .before .before .before .before .before .before .before .before .args .p) (c .before .before .before .before .before .before .before .before .before .before .before .before .before .before .before .before .before .before .before .before .before .before .before .args .q) (c .before .before .before .before .before .before .before .before .before .before .before .before .before .before .before .before .before .new-label .result) (verdictIn (c .before .before .before .before .before .before .before .before .before .before .before .before .before .before .before .before .before .before .before .before .before .before .before .args .verdicts)) (c .before .before .before .before .before .before .before .before .before .before .before .before .before .before .before .before .before .before .before .before .before .before .before .pre .0) (c .before .before .before .before .before .before .before .before .before .before .before .before .before .before .before .before .before .before .before .before .before .before .before .pre .1) (c .before .before .before .before .before .before .before .before .before .before .before .before .before .before .merged-rows .result) (c .before .before .before .before .before .before .before .before .before .before .before .merged-yields .result) (c .before .before .before .before .before .before .before .before .orders-after .result) (c .before .before .before .before .before .before .before .before .before .before .before .before .before .before .merged-rows .ensures .1) (c .before .before .before .before .before .before .before .before .before .before .before .merged-yields .ensures) (c .before .before .before .before .before .before .before .before .orders-after .ensures) (c .before .before .before .before .before .before .before .before .before .before .before .before .before .before .before .before .before .before .before .before .wide .result) (c .before .before .before .before .before .before .before .before .before .before .before .before .before .before .before .before .before .before .before .before .wide .ensures .0) (c .before .before .before .before .before .before .before .before .before .before .before .before .before .before .before .before .before .before .before .before .before .before .before .args .first .now) (c .before .before .before .before .before .before .write-body .last .0) (c .before .before .before .before .before .before .write-body .ensures), was-written (c .before .before .before .before .before .before .before .before .before .before .before .before .before .before .before .before .before .before .before .before .before .before .before .args .first .now) (c .before .before .before .before .before .before .before .before .before .before .before .before .before .before .before .before .before .before .before .before .before .before .before .args .second .now) (c .before .before .before .before .before .before .before .before .before .before .before .before .before .before .before .before .before .before .before .before .before .before .before .args .n) (c .before .before .before .before .before .before .before .before .before .before .before .before .before .before .before .before .before .before .before .before .before .before .before .args .p) (c .before .before .before .before .before .before .before .before .before .before .before .before .before .before .before .before .before .before .before .before .before .before .before .args .q) (c .before .before .before .before .before .before .before .before .before .before .before .before .before .before .before .before .before .new-label .result) (verdictIn (c .before .before .before .before .before .before .before .before .before .before .before .before .before .before .before .before .before .before .before .before .before .before .before .args .verdicts)) (c .before .before .before .before .before .before .before .before .before .before .before .before .before .before .before .before .before .before .before .before .before .before .before .pre .0) (c .before .before .before .before .before .before .before .before .before .before .before .before .before .before .before .before .before .before .before .before .before .before .before .pre .1) (c .before .before .before .before .before .before .before .before .before .before .before .before .before .before .merged-rows .result) (c .before .before .before .before .before .before .before .before .before .before .before .merged-yields .result) (c .before .before .before .before .before .before .before .before .orders-after .result) (c .before .before .before .before .before .before .before .before .before .before .before .before .before .before .merged-rows .ensures .1) (c .before .before .before .before .before .before .before .before .before .before .before .merged-yields .ensures) (c .before .before .before .before .before .before .before .before .orders-after .ensures) (c .before .before .before .before .before .before .before .before .before .before .before .before .before .before .before .before .before .before .before .before .wide .result) (c .before .before .before .before .before .before .before .before .before .before .before .before .before .before .before .before .before .before .before .before .wide .ensures .0) (c .before .before .before .before .before .before .before .before .before .before .before .before .before .before .before .before .before .before .before .before .before .before .before .args .second .now) (c .before .before .write-body2 .last .0) (c .before .before .write-body2 .ensures))
 
 pub write-meeting-spec : {M : Type 1} → statement M
 write-meeting-spec =

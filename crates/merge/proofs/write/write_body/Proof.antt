@@ -1,4 +1,8 @@
 use borrow.Author.Needs.{needs}
+use Prim.Native.Nat.{_-_}
+use native.Mathlib.Omega.{arith}
+use lib.ListN.{length}
+use Rattle.merge.proofs.BodyWritten.{body-written}
 use Rattle.merge.proofs.write.write_body.Statement.{statement}
 use Rattle.merge.proofs.write.write_body.Tie as tie
 use Rattle.merge.proofs.write.write_body.Reads as reads
@@ -29,7 +33,7 @@ same-length c = search needs
 
 -- src/write.rt:51:1
 returns : tie.Need-returns
-returns c = ?
+returns c = body-written (c .before .before .before .before .before .before .before .before .before .before .before .before .before .args .image .now) (c .before .before .before .before .before .before .before .before .before .before .write-rows .last .0) (c .before .before .before .before .before .before .write-yields .last .0) (c .before .before .before .before .before .before .before .before .before .before .before .before .before .args .n) (c .before .before .before .before .before .before .before .before .before .before .before .before .before .args .rows) (c .before .before .before .before .before .before .before .before .before .before .before .before .before .args .yields) (c .before .before .before .before .before .before .before .before .before .before .before .before .before .pre .0 .0) (c .before .before .before .before .before .before .before .before .before .before .before .before .before .pre .0 .2) (c .before .before .before .before .before .before .before .before .before .before .before .before .before .pre .1 .0) (c .before .before .before .before .before .before .before .before .before .before .write-rows .ensures) (c .before .before .before .before .before .before .write-yields .ensures) (c .before .before .write-at .last .0) (length (c .before .before .before .before .before .before .write-yields .last .0) - c .before .before .before .before .before .before .before .before .before .before .before .before .before .args .n) (c .before .before .before .before .before .before .before .before .before .before .before .before .before .args .orders) (omega (arith, c .before .before .before .before .before .before .before .before .before .before .before .before .before .pre .0 .0 .long)) (c .before .before .write-at .ensures)
 
 pub write-body-spec : {M : Type 1} → statement M
 write-body-spec =

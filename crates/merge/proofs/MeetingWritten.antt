@@ -1,0 +1,28 @@
+-- Rows, yields and order bytes by value: they may be written into the image of a head that met, and what it holds then.
+use Prim.Native.Nat.{ℕ, _-_, _*_, _≤_}
+use mathlib.Core.Path.{_≡_, ap, _∙_}
+use mathlib.Core.List.{List, [], _++_}
+use lib.ListN.{length, getD, take}
+use Rattle.image.specs.Stalls.{each}
+use Rattle.image.specs.Frame.{Sized, Framed}
+use Rattle.merge.specs.Orders.{Ordered}
+use Rattle.merge.specs.Body.{bodyRow, bodyYield, padded, rowIn, imageAfter}
+use Rattle.merge.proofs.BodyWritten.{rows-long, yields-long, rows-in, yields-in}
+use Rattle.merge.proofs.AfterMeeting.{orders-in}
+
+module _ (s u : List ℕ) (n p q k : ℕ) (v : ℕ → ℕ) (a : Framed s n p) (b : Framed u n q) (rows : List (List ℕ)) (yields orders : List ℕ)
+    (rows-are : (r : ℕ) → 1 ≤ r → r ≤ n → getD rows (r - 1) [] ≡ padded n (bodyRow s u n p q k v r)) (yields-are : yields ≡ padded n (each n (bodyYield s u n p q v)))
+    (orders-are : Ordered s u n p q n orders) (m : ℕ) (m-is : m ≡ n) where
+  pub may-write : (d : List ℕ) (own : ℕ) → Framed d n own → length rows ≡ 8
+      → (Sized d m × (length rows ≡ 8) × ((r : ℕ) → 1 ≤ r → r ≤ m → length (getD rows (r - 1) []) ≡ 16)) × ((length yields ≡ 16) × (length orders ≡ 16))
+  may-write d own f e =
+      rw m-is (
+        (record { n-from = f .n-from; n-to = f .n-to; long = f .long }, e, rows-long s u n p q k v a b rows yields rows-are yields-are),
+        (yields-long s u n p q k v a b rows yields rows-are yields-are, orders-are .long),
+      )
+
+  pub was-written : (d x : List ℕ) → x ≡ take 4 d ++ each m (rowIn rows m) ++ take (m * 2) yields ++ take m orders → x ≡ imageAfter d s u n p q k v
+  was-written d x e =
+      e
+      ∙ ap (λ j. take 4 d ++ each j (rowIn rows j) ++ take (j * 2) yields ++ take j orders) m-is
+      ∙ rw (rows-in s u n p q k v a b rows yields rows-are yields-are, yields-in s u n p q k v a b rows yields rows-are yields-are, orders-in s u n p q orders (a .n-to) orders-are)
