@@ -14,3 +14,4 @@ pub mod Mixing
 pub mod BodyRows
 pub mod Written
 pub mod BodyWritten
+pub mod AfterLaws

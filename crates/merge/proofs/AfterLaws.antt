@@ -1,0 +1,243 @@
+-- What a meeting leaves: well-made tables that say the same, so that a second meeting at once has nothing newer to tell.
+use Prim.Native.Nat.{ℕ, _≤_}
+use mathlib.Core.Path.{_≡_, refl, sym, ap, subst, _∙_}
+use mathlib.Core.Bool.{Bool, true, false, _&&_, _||_, not, cond, true≢false, false≢true}
+use mathlib.Core.Logic.{_⊎_, inl, inr}
+use native.Mathlib.Omega.{arith}
+use borrow.Author.Tests.{eqb-true, not-true, not-false}
+use lib.Dec.{eqb}
+use Rattle.image.specs.Layout.{yieldLimit, noYield}
+use Rattle.image.specs.Encode.{Table}
+use Rattle.image.specs.Made.{NameIn, Made}
+use Rattle.image.specs.declared.Meet.{Meet}
+use Rattle.image.specs.declared.Name.{Name}
+use Rattle.image.specs.declared.Name.the-variants.{Never, With}
+use Rattle.image.proofs.Tables.{none-at}
+use Rattle.image.proofs.Passing.{and-holds}
+use Rattle.merge.specs.Known.{isNever, known}
+use Rattle.merge.specs.Verdict.{sameName, judge, verdict, undecided}
+use Rattle.merge.specs.Label.{newLabel}
+use Rattle.merge.specs.Merged.{met, firstHas, secondHas, supplier, supplierStall, latestName, mergedNames, mergedYields, orderBetween, mergedOrder, merged}
+use Rattle.merge.proofs.NewLabel.{newLabel-limit}
+
+-- Cases
+
+either : {A : Type 0} (P : A → Type 0) (x : Bool) (u v : A) → (x ≡ true → P u) → (x ≡ false → P v) → P (cond x u v)
+either P true u v f g = f refl
+either P false u v f g = g refl
+
+pick : {A : Type 0} (P : A → Type 0) (x y : Bool) (u v z : A) → (x ≡ true → P u) → (y ≡ true → P v) → ((x || y) ≡ false → P z) → P (cond x u (cond y v z))
+pick P true y u v z f g h = f refl
+pick P false true u v z f g h = g refl
+pick P false false u v z f g h = h refl
+
+pick-neither : {A : Type 0} (x y : Bool) (u v z : A) → (x || y) ≡ false → cond x u (cond y v z) ≡ z
+pick-neither true y u v z e = absurd (true≢false e)
+pick-neither false true u v z e = absurd (true≢false e)
+pick-neither false false u v z e = refl
+
+never-with : {m : Meet} → With m ≡ Never → ⊥
+never-with e = let z : _≡_ {A = ℕ} 0 1 = cc in omega arith
+
+not-never : (x : Name) → (x ≡ Never → ⊥) → not (isNever x) ≡ true
+not-never Never h = absurd (h refl)
+not-never (With m) h = refl
+
+never-not : (x : Name) → not (isNever x) ≡ true → x ≡ Never → ⊥
+never-not Never e = absurd (false≢true e)
+never-not (With m) e = never-with
+
+same-never : (x y : Name) → sameName x y ≡ true → x ≡ Never → y ≡ Never
+same-never Never Never e i = refl
+same-never Never (With k) e i = absurd (false≢true e)
+same-never (With m) y e i = absurd (never-with i)
+
+-- a decided verdict for neither head is by the same name
+judge-zero : (x y z : Bool) → not (eqb (judge x y z) 2) ≡ true → not (eqb (judge x y z) 1) ≡ true → eqb (judge x y z) 9 ≡ false → z ≡ true
+judge-zero true true true a b c = refl
+judge-zero true true false a b c = absurd (true≢false c)
+judge-zero true false z a b c = absurd (false≢true a)
+judge-zero false true z a b c = absurd (false≢true b)
+judge-zero false false z a b c = absurd (true≢false c)
+
+all-three : (x y z : Bool) → (x && y && z) ≡ true → (x ≡ true) × (y ≡ true) × (z ≡ true)
+all-three true true z e = (refl, refl, e)
+all-three true false z e = absurd (false≢true e)
+all-three false y z e = absurd (false≢true e)
+
+-- a mark between two others is the first's or the second's
+between : (f g x h k y : Bool) → (f && g && x || not (f && g) && (h && k) && y) ≡ true
+    → ((f ≡ true) × (g ≡ true) × (x ≡ true)) ⊎ ((h ≡ true) × (k ≡ true) × (y ≡ true))
+between true true true h k y e = inl (refl, refl, refl)
+between true true false h k y e = absurd (false≢true e)
+between true false x h k y e = inr (all-three h k y e)
+between false g x h k y e = inr (all-three h k y e)
+
+-- two heads at different stalls whose images belong together
+pub record Meets (n p : ℕ) (a : Table) (q : ℕ) (b : Table) : Type 0 where
+  pub p-from : 1 ≤ p
+  pub p-to : p ≤ n
+  pub q-from : 1 ≤ q
+  pub q-to : q ≤ n
+  pub differ : p ≡ q → ⊥
+  pub first : Made n p a
+  pub second : Made n q b
+  pub decided : undecided n p a q b ≡ false
+
+-- Who was met, and who not
+
+module _ (n p : ℕ) (a : Table) (q : ℕ) (b : Table) where
+  abbrev newName : ℕ → Name
+  newName partner = With (record { partner = partner; label = newLabel n p a q b })
+
+  latest-met : (r : ℕ) → met n p a q b r ≡ true → latestName n p a q b r ≡ Never → ⊥
+  unfolding latestName
+  latest-met r e =
+      pick (λ x. x ≡ Never → ⊥) (eqb r p) (eqb r q) (newName q) (newName p) (supplier n p a q b r .names (supplierStall n p a q b r) r)
+      (λ i. never-with)
+      (λ i. never-with)
+      (λ i. absurd (true≢false (sym e ∙ i)))
+
+  latest-other : (r : ℕ) → met n p a q b r ≡ false → latestName n p a q b r ≡ supplier n p a q b r .names (supplierStall n p a q b r) r
+  unfolding latestName
+  latest-other r e = pick-neither (eqb r p) (eqb r q) (newName q) (newName p) (supplier n p a q b r .names (supplierStall n p a q b r) r) e
+
+  never-other : (r : ℕ) → latestName n p a q b r ≡ Never → met n p a q b r ≡ false
+  never-other r z = go (met n p a q b r) refl
+    where
+      go : (t : Bool) → met n p a q b r ≡ t → met n p a q b r ≡ false
+      go true e = absurd (latest-met r e z)
+      go false e = e
+
+  -- the own row of either is the new list
+  pub own-row : (own r : ℕ) → met n p a q b own ≡ true → mergedNames n p a q b own r ≡ latestName n p a q b r
+  unfolding mergedNames
+  own-row own r e = ap (λ t. cond t (latestName n p a q b r) (supplier n p a q b own .names own r)) e
+
+  names-other : (r c : ℕ) → met n p a q b r ≡ false → mergedNames n p a q b r c ≡ supplier n p a q b r .names r c
+  unfolding mergedNames
+  names-other r c e = ap (λ t. cond t (latestName n p a q b c) (supplier n p a q b r .names r c)) e
+
+  yields-other : (r : ℕ) → met n p a q b r ≡ false → mergedYields n p a q b r ≡ supplier n p a q b r .yields r
+  unfolding mergedYields
+  yields-other r e = pick-neither (eqb r p) (eqb r q) (a .current) (b .current) (supplier n p a q b r .yields r) e
+
+  supplied-by : (r : ℕ) (t : Bool) → firstHas n p a q b r ≡ t → supplier n p a q b r .names (supplierStall n p a q b r) r ≡ cond t a b .names (cond t p q) r
+  supplied-by r t f = ap (λ z. cond z a b .names (cond z p q) r) f
+
+  -- the supplier's own mark of r goes through
+  between-self : (r : ℕ) → supplier n p a q b r .order r r ≡ true → orderBetween n p a q b r r ≡ true
+  between-self r = go (firstHas n p a q b r) refl
+    where
+      go : (f : Bool) → firstHas n p a q b r ≡ f → cond f a b .order r r ≡ true
+          → (f && f && a .order r r || not (f && f) && (secondHas n p a q b r && secondHas n p a q b r) && b .order r r) ≡ true
+      go true e o = rw o
+      go false e o = let v : verdict n p a q b r ≡ 2 = eqb-true _ 2 (not-false _ e) in rw (v, o)
+
+-- The parts of a well-made table
+
+module _ {n p : ℕ} {a : Table} {q : ℕ} {b : Table} (w : Meets n p a q b) where
+  supplied : (r : ℕ) → Made n (supplierStall n p a q b r) (supplier n p a q b r)
+  supplied r = go (firstHas n p a q b r)
+    where
+      go : (t : Bool) → Made n (cond t p q) (cond t a b)
+      go true = w .first
+      go false = w .second
+
+  latest-in : (c : ℕ) → 1 ≤ c → c ≤ n → NameIn n c (latestName n p a q b c)
+  unfolding latestName
+  latest-in c k l =
+      pick (NameIn n c) (eqb c p) (eqb c q) (newName n p a q b q) (newName n p a q b p) (supplier n p a q b c .names (supplierStall n p a q b c) c)
+      (λ e. (w .q-from, w .q-to, λ z. w .differ (sym (z ∙ eqb-true c p e)), newLabel-limit n p a q b))
+      (λ e. (w .p-from, w .p-to, λ z. w .differ (z ∙ eqb-true c q e), newLabel-limit n p a q b))
+      (λ e. subst (NameIn n c) (supplied c .diagonal c k l) (supplied c .names-in c c k l k l))
+
+  names-in : (r c : ℕ) → 1 ≤ r → r ≤ n → 1 ≤ c → c ≤ n → NameIn n c (mergedNames n p a q b r c)
+  unfolding mergedNames
+  names-in r c i j k l =
+      either (NameIn n c) (met n p a q b r) (latestName n p a q b c) (supplier n p a q b r .names r c)
+      (λ e. latest-in c k l)
+      (λ e. supplied r .names-in r c i j k l)
+
+  yields-in : (r : ℕ) → 1 ≤ r → r ≤ n → mergedYields n p a q b r ≤ yieldLimit
+  unfolding mergedYields
+  yields-in r i j =
+      pick (λ y. y ≤ yieldLimit) (eqb r p) (eqb r q) (a .current) (b .current) (supplier n p a q b r .yields r)
+      (λ e. w .first .current-in)
+      (λ e. w .second .current-in)
+      (λ e. supplied r .yields-in r i j)
+
+  diagonal : (r : ℕ) → 1 ≤ r → r ≤ n → mergedNames n p a q b r r ≡ latestName n p a q b r
+  unfolding mergedNames
+  diagonal r i j =
+      either (λ x. x ≡ latestName n p a q b r) (met n p a q b r) (latestName n p a q b r) (supplier n p a q b r .names r r)
+      (λ e. refl)
+      (λ e. supplied r .diagonal r i j ∙ sym (latest-other n p a q b r e))
+
+  -- the second's name too is none, where it has no other news
+  second-never : (r : ℕ) → 1 ≤ r → r ≤ n → met n p a q b r ≡ false → secondHas n p a q b r ≡ true → latestName n p a q b r ≡ Never → b .names q r ≡ Never
+  unfolding verdict undecided
+  second-never r i j e s z = go (firstHas n p a q b r) refl
+    where
+      go : (t : Bool) → firstHas n p a q b r ≡ t → b .names q r ≡ Never
+      go true f =
+          let same = judge-zero (known n (a .names p) (a .order r) (b .names q) r) (known n (b .names q) (b .order r) (a .names p) r) (sameName (a .names p r) (b .names q r))
+          f s (none-at n (λ r. eqb (verdict n p a q b r) 9) (w .decided) r i j) in
+          same-never (a .names p r) (b .names q r) same (sym (latest-other n p a q b r e ∙ supplied-by n p a q b r true f) ∙ z)
+      go false f = sym (latest-other n p a q b r e ∙ supplied-by n p a q b r false f) ∙ z
+
+  marks-heard : (r s : ℕ) → 1 ≤ r → r ≤ n → 1 ≤ s → s ≤ n → mergedOrder n p a q b r s ≡ true
+      → (latestName n p a q b r ≡ Never → ⊥) × (latestName n p a q b s ≡ Never → ⊥)
+  unfolding mergedOrder
+  marks-heard r s i j k l = go (met n p a q b s) refl
+    where
+      go : (t : Bool) → met n p a q b s ≡ t → cond t (not (isNever (latestName n p a q b r))) (not (met n p a q b r) && orderBetween n p a q b r s) ≡ true
+          → (latestName n p a q b r ≡ Never → ⊥) × (latestName n p a q b s ≡ Never → ⊥)
+      go true e d = (never-not (latestName n p a q b r) d, latest-met n p a q b s e)
+      go false e d =
+          let (o, m) = and-holds (not (met n p a q b r)) (orderBetween n p a q b r s) .0 d in
+          let v = not-true (met n p a q b r) o in
+          elim (between (firstHas n p a q b r) (firstHas n p a q b s) (a .order r s) (secondHas n p a q b r) (secondHas n p a q b s) (b .order r s) m) [
+            | inl (f, g, x) ↦
+                let h = w .first .marks-heard r s i j k l x in
+                (λ z. h .0 (sym (latest-other n p a q b r v ∙ supplied-by n p a q b r true f) ∙ z), λ z. h .1 (sym (latest-other n p a q b s e ∙ supplied-by n p a q b s true g) ∙ z))
+            | inr (f, g, x) ↦
+                let h = w .second .marks-heard r s i j k l x in
+                (λ z. h .0 (second-never r i j v f z), λ z. h .1 (second-never s k l e g z))
+          ]
+
+  marked-self : (r : ℕ) → 1 ≤ r → r ≤ n → (latestName n p a q b r ≡ Never → ⊥) → mergedOrder n p a q b r r ≡ true
+  unfolding mergedOrder
+  marked-self r i j h =
+      either (λ t. t ≡ true) (met n p a q b r) (not (isNever (latestName n p a q b r))) (not (met n p a q b r) && orderBetween n p a q b r r)
+      (λ e. not-never (latestName n p a q b r) h)
+      (λ e. and-holds (not (met n p a q b r)) (orderBetween n p a q b r r) .1
+      (ap not e, between-self n p a q b r (supplied r .marked-self r i j (λ z. h (latest-other n p a q b r e ∙ z)))))
+
+  marked-met : (r s : ℕ) → met n p a q b s ≡ true → (latestName n p a q b r ≡ Never → ⊥) → mergedOrder n p a q b r s ≡ true
+  unfolding mergedOrder
+  marked-met r s is h =
+      ap (λ t. cond t (not (isNever (latestName n p a q b r))) (not (met n p a q b r) && orderBetween n p a q b r s)) is ∙ not-never (latestName n p a q b r) h
+
+  -- the table of either is well made
+  pub merged-made : (own current : ℕ) → met n p a q b own ≡ true → current ≤ yieldLimit → Made n own (merged n p a q b current)
+  unfolding merged
+  merged-made own current is le =
+      let row : (r : ℕ) → mergedNames n p a q b own r ≡ latestName n p a q b r = λ r. own-row n p a q b own r is in
+      record {
+        current-in = le;
+        yields-in = yields-in;
+        names-in = names-in;
+        diagonal = λ r i j. diagonal r i j ∙ sym (row r);
+        unheard-row = λ r c i j k l z.
+            let e = never-other n p a q b r (sym (row r) ∙ z) in
+            names-other n p a q b r c e ∙ supplied r .unheard-row r c i j k l (sym (latest-other n p a q b r e) ∙ sym (row r) ∙ z);
+        unheard-yield = λ r i j z.
+            let e = never-other n p a q b r (sym (row r) ∙ z) in
+            yields-other n p a q b r e ∙ supplied r .unheard-yield r i j (sym (latest-other n p a q b r e) ∙ sym (row r) ∙ z);
+        marks-heard = λ r s i j k l m.
+            let h = marks-heard r s i j k l m in
+            (λ z. h .0 (sym (row r) ∙ z), λ z. h .1 (sym (row s) ∙ z));
+        marked-self = λ r i j h. marked-self r i j (λ z. h (row r ∙ z));
+        marked-own = λ r i j h. marked-met r own is (λ z. h (row r ∙ z));
+      }
