@@ -1,20 +1,26 @@
 -- What a meeting leaves: well-made tables that say the same, so that a second meeting at once has nothing newer to tell.
 use Prim.Native.Nat.{ℕ, _≤_}
 use mathlib.Core.Path.{_≡_, refl, sym, ap, subst, _∙_}
-use mathlib.Core.Bool.{Bool, true, false, _&&_, _||_, not, cond, true≢false, false≢true}
+use mathlib.Core.Bool.{Bool, true, false, _&&_, _||_, not, cond, or-true, true≢false, false≢true}
 use mathlib.Core.Logic.{_⊎_, inl, inr}
+use mathlib.Core.List.{List}
 use native.Mathlib.Omega.{arith}
-use borrow.Author.Tests.{eqb-true, not-true, not-false}
+use borrow.Author.Tests.{eq-eqb, eqb-true, not-true, not-false}
 use lib.Dec.{eqb}
+use Rattle.image.specs.Stalls.{some}
 use Rattle.image.specs.Layout.{yieldLimit, noYield}
-use Rattle.image.specs.Encode.{Table}
+use Rattle.image.specs.Encode.{Table, encode, tableOf}
 use Rattle.image.specs.Made.{NameIn, Made}
 use Rattle.image.specs.declared.Meet.{Meet}
 use Rattle.image.specs.declared.Name.{Name}
 use Rattle.image.specs.declared.Name.the-variants.{Never, With}
+use Rattle.image.proofs.Bits.{Found, at, nowhere, some-found}
 use Rattle.image.proofs.Tables.{none-at}
 use Rattle.image.proofs.Passing.{and-holds}
-use Rattle.merge.specs.Known.{isNever, known}
+use Rattle.image.proofs.Accepted.{Accepted}
+use Rattle.image.proofs.AcceptedMade.{accepted-made}
+use Rattle.image.proofs.MadeAccepted.{made-accepted}
+use Rattle.merge.specs.Known.{isNever, sameMeeting, common, known}
 use Rattle.merge.specs.Verdict.{sameName, judge, verdict, undecided}
 use Rattle.merge.specs.Label.{newLabel}
 use Rattle.merge.specs.Merged.{met, firstHas, secondHas, supplier, supplierStall, latestName, mergedNames, mergedYields, orderBetween, mergedOrder, merged}
@@ -241,3 +247,87 @@ module _ {n p : ℕ} {a : Table} {q : ℕ} {b : Table} (w : Meets n p a q b) whe
         marked-self = λ r i j h. marked-self r i j (λ z. h (row r ∙ z));
         marked-own = λ r i j h. marked-met r own is (λ z. h (row r ∙ z));
       }
+
+-- A second meeting at once
+
+same-self : (x : Name) → sameName x x ≡ true
+same-self Never = refl
+same-self (With m) = rw (eq-eqb (m .partner) (m .partner) refl, eq-eqb (m .label) (m .label) refl)
+
+meeting-self : (c : ℕ) (x : Name) → (x ≡ Never → ⊥) → sameMeeting c x c x ≡ true
+meeting-self c Never h = absurd (h refl)
+meeting-self c (With m) h = rw (eq-eqb (m .label) (m .label) refl, eq-eqb c c refl, eq-eqb (m .partner) (m .partner) refl)
+
+some-holds : (n : ℕ) (f : ℕ → Bool) (s : ℕ) → 1 ≤ s → s ≤ n → f s ≡ true → some n f ≡ true
+some-holds n f s i j e = go (some n f) (some-found n f)
+  where
+    go : (t : Bool) → Found n f t → t ≡ true
+    go t (at r k l d) = refl
+    go t (nowhere g) = absurd (true≢false (sym e ∙ g s i j))
+
+-- a latest that both have, with its own mark, is known
+known-shared : (n : ℕ) (mine theirs : ℕ → Name) (marks : ℕ → Bool) (r : ℕ) → 1 ≤ r → r ≤ n → mine r ≡ theirs r → ((mine r ≡ Never → ⊥) → marks r ≡ true)
+    → known n mine marks theirs r ≡ true
+unfolding known common
+known-shared n mine theirs marks r i j same marked = go (isNever (mine r)) refl
+  where
+    go : (t : Bool) → isNever (mine r) ≡ t → (t || some n (λ s. marks s && common n mine theirs s)) ≡ true
+    go true e = refl
+    go false e =
+        let heard = never-not (mine r) (ap not e) in
+        let both : common n mine theirs r ≡ true = some-holds n (λ d. sameMeeting r (mine r) d (theirs d)) r i j
+        (subst (λ y. sameMeeting r (mine r) r y ≡ true) same (meeting-self r (mine r) heard)) in
+        some-holds n (λ s. marks s && common n mine theirs s) r i j (and-holds (marks r) (common n mine theirs r) .1 (marked heard, both))
+
+module _ (n p : ℕ) (a : Table) (q : ℕ) (b : Table) where
+  pub met-first : met n p a q b p ≡ true
+  met-first = rw (eq-eqb p p refl)
+
+  pub met-second : met n p a q b q ≡ true
+  met-second = rw (eq-eqb q q refl) (or-true (eqb q p))
+
+  -- rows, yields and marks are the same whatever the current yields
+  pub after-same : (c d : ℕ)
+      → (merged n p a q b c .names ≡ merged n p a q b d .names) × (merged n p a q b c .yields ≡ merged n p a q b d .yields) × (merged n p a q b c .order ≡ merged n p a q b d .order)
+  unfolding merged
+  after-same c d = (refl, refl, refl)
+
+-- nothing is newer in either
+pub again-zero : {n p : ℕ} {a : Table} {q : ℕ} {b : Table} → Meets n p a q b → (c d r : ℕ) → 1 ≤ r → r ≤ n
+    → verdict n p (merged n p a q b c) q (merged n p a q b d) r ≡ 0
+unfolding verdict merged
+again-zero {n} {p} {a} {q} {b} w c d r i j =
+    let row = own-row n p a q b p r (met-first n p a q b) in
+    let other = own-row n p a q b q r (met-second n p a q b) in
+    let same = row ∙ sym other in
+    let first = known-shared n (mergedNames n p a q b p) (mergedNames n p a q b q) (mergedOrder n p a q b r) r i j same (λ h. marked-self w r i j (λ z. h (row ∙ z))) in
+    let second = known-shared n (mergedNames n p a q b q) (mergedNames n p a q b p) (mergedOrder n p a q b r) r i j (sym same) (λ h. marked-self w r i j (λ z. h (other ∙ z))) in
+    rw (first, second, same) (ap (judge true true) (same-self (mergedNames n p a q b q r)))
+
+-- Images
+
+pub meets : {s u : List ℕ} {n p q : ℕ} → Accepted s n p → Accepted u n q → (p ≡ q → ⊥) → undecided n p (tableOf s n) q (tableOf u n) ≡ false
+    → Meets n p (tableOf s n) q (tableOf u n)
+meets w v differ decided =
+    record {
+      p-from = w .frame .own-from;
+      p-to = w .frame .own-to;
+      q-from = v .frame .own-from;
+      q-to = v .frame .own-to;
+      differ = differ;
+      first = accepted-made w;
+      second = accepted-made v;
+      decided = decided;
+    }
+
+pub meeting-accepted : {s u : List ℕ} {n p q : ℕ} → Accepted s n p → Accepted u n q → (p ≡ q → ⊥) → undecided n p (tableOf s n) q (tableOf u n) ≡ false
+    → Accepted (encode n p (merged n p (tableOf s n) q (tableOf u n) (tableOf s n .current))) n p
+    × Accepted (encode n q (merged n p (tableOf s n) q (tableOf u n) (tableOf u n .current))) n q
+meeting-accepted {s} {u} {n} {p} {q} w v differ decided =
+    let a = tableOf s n in
+    let b = tableOf u n in
+    let m = meets w v differ decided in
+    (
+      made-accepted n p (merged n p a q b (a .current)) (w .frame .n-from) (w .frame .n-to) (m .p-from) (m .p-to) (merged-made m p (a .current) (met-first n p a q b) (m .first .current-in)),
+      made-accepted n q (merged n p a q b (b .current)) (w .frame .n-from) (w .frame .n-to) (m .q-from) (m .q-to) (merged-made m q (b .current) (met-second n p a q b) (m .second .current-in)),
+    )
