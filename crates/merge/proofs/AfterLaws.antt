@@ -8,7 +8,7 @@ use native.Mathlib.Omega.{arith}
 use borrow.Author.Tests.{eq-eqb, eqb-true, not-true, not-false}
 use lib.Dec.{eqb}
 use Rattle.image.specs.Stalls.{some}
-use Rattle.image.specs.Layout.{yieldLimit, noYield}
+use Rattle.image.specs.Layout.{largest, yieldLimit, noYield}
 use Rattle.image.specs.Encode.{Table, encode, tableOf}
 use Rattle.image.specs.Made.{NameIn, Made}
 use Rattle.image.specs.declared.Meet.{Meet}
@@ -19,11 +19,12 @@ use Rattle.image.proofs.Tables.{none-at}
 use Rattle.image.proofs.Passing.{and-holds}
 use Rattle.image.proofs.Accepted.{Accepted}
 use Rattle.image.proofs.AcceptedMade.{accepted-made}
-use Rattle.image.proofs.MadeAccepted.{made-accepted}
+use Rattle.image.proofs.MadeAccepted.{read-name, read-mark, made-accepted}
 use Rattle.merge.specs.Known.{isNever, sameMeeting, common, known}
 use Rattle.merge.specs.Verdict.{sameName, judge, verdict, undecided}
 use Rattle.merge.specs.Label.{newLabel}
 use Rattle.merge.specs.Merged.{met, firstHas, secondHas, supplier, supplierStall, latestName, mergedNames, mergedYields, orderBetween, mergedOrder, merged}
+use Rattle.merge.proofs.Agreeing.{verdict-agree}
 use Rattle.merge.proofs.NewLabel.{newLabel-limit}
 
 -- Cases
@@ -326,8 +327,23 @@ pub meeting-accepted : {s u : List ℕ} {n p q : ℕ} → Accepted s n p → Acc
 meeting-accepted {s} {u} {n} {p} {q} w v differ decided =
     let a = tableOf s n in
     let b = tableOf u n in
-    let m = meets w v differ decided in
-    (
+    let m = meets w v differ decided in (
       made-accepted n p (merged n p a q b (a .current)) (w .frame .n-from) (w .frame .n-to) (m .p-from) (m .p-to) (merged-made m p (a .current) (met-first n p a q b) (m .first .current-in)),
       made-accepted n q (merged n p a q b (b .current)) (w .frame .n-from) (w .frame .n-to) (m .q-from) (m .q-to) (merged-made m q (b .current) (met-second n p a q b) (m .second .current-in)),
     )
+
+-- and so it is for their images
+pub again-zero-images : {n p : ℕ} {a : Table} {q : ℕ} {b : Table} → Meets n p a q b → 2 ≤ n → n ≤ largest → (c d : ℕ) → c ≤ yieldLimit → d ≤ yieldLimit
+    → (r : ℕ) → 1 ≤ r → r ≤ n → verdict n p (tableOf (encode n p (merged n p a q b c)) n) q (tableOf (encode n q (merged n p a q b d)) n) r ≡ 0
+unfolding tableOf
+again-zero-images {n} {p} {a} {q} {b} w from to c d e f r i j =
+    let first = merged n p a q b c in
+    let second = merged n p a q b d in
+    let x = merged-made w p c (met-first n p a q b) e in
+    let y = merged-made w q d (met-second n p a q b) f in
+    verdict-agree n p (tableOf (encode n p first) n) first q (tableOf (encode n q second) n) second r i j
+    (λ s. read-name n p first from to (w .p-from) (w .p-to) x p s (w .p-from) (w .p-to))
+    (λ s. read-name n q second from to (w .q-from) (w .q-to) y q s (w .q-from) (w .q-to))
+    (λ s. read-mark n p first from to (w .p-from) (w .p-to) x r s i j)
+    (λ s. read-mark n q second from to (w .q-from) (w .q-to) y r s i j)
+    ∙ again-zero w c d r i j

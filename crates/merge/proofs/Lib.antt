@@ -1,5 +1,6 @@
 -- The lemmas of `merge`. What crates above cite is `pub mod`.
 pub mod Commons
+pub mod Agreeing
 pub mod Judging
 pub mod Marks
 pub mod OrderBytes
