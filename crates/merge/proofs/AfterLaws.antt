@@ -1,14 +1,15 @@
 -- What a meeting leaves: well-made tables that say the same, so that a second meeting at once has nothing newer to tell.
-use Prim.Native.Nat.{ℕ, _≤_}
+use Prim.Native.Nat.{ℕ, _+_, _≤_}
 use mathlib.Core.Path.{_≡_, refl, sym, ap, subst, _∙_}
 use mathlib.Core.Bool.{Bool, true, false, _&&_, _||_, not, cond, or-true, true≢false, false≢true}
-use mathlib.Core.Logic.{_⊎_, inl, inr}
-use mathlib.Core.List.{List}
+use mathlib.Core.Logic.{_⊎_, inl, inr, _↔_}
+use mathlib.Core.List.{List, [], _∷_}
 use native.Mathlib.Omega.{arith}
-use borrow.Author.Tests.{eq-eqb, eqb-true, not-true, not-false}
+use borrow.Author.Tests.{eq-eqb, eqb-true, ne-eqb, not-true, not-false}
 use lib.Dec.{eqb}
-use Rattle.image.specs.Stalls.{some}
-use Rattle.image.specs.Layout.{largest, yieldLimit, noYield}
+use lib.ListN.{length}
+use Rattle.image.specs.Stalls.{some, each}
+use Rattle.image.specs.Layout.{largest, yieldLimit}
 use Rattle.image.specs.Encode.{Table, encode, tableOf}
 use Rattle.image.specs.Made.{NameIn, Made}
 use Rattle.image.specs.declared.Meet.{Meet}
@@ -16,15 +17,17 @@ use Rattle.image.specs.declared.Name.{Name}
 use Rattle.image.specs.declared.Name.the-variants.{Never, With}
 use Rattle.image.proofs.Bits.{Found, at, nowhere, some-found}
 use Rattle.image.proofs.Tables.{none-at}
-use Rattle.image.proofs.Passing.{and-holds}
-use Rattle.image.proofs.Accepted.{Accepted}
+use Rattle.image.proofs.Passing.{and-holds, some-fails}
+use Rattle.image.proofs.Accepted.{Accepted, checked-accepted}
 use Rattle.image.proofs.AcceptedMade.{accepted-made}
 use Rattle.image.proofs.MadeAccepted.{read-name, read-mark, made-accepted}
 use Rattle.merge.specs.Known.{isNever, sameMeeting, common, known}
 use Rattle.merge.specs.Verdict.{sameName, judge, verdict, undecided}
 use Rattle.merge.specs.Label.{newLabel}
-use Rattle.merge.specs.Merged.{met, firstHas, secondHas, supplier, supplierStall, latestName, mergedNames, mergedYields, orderBetween, mergedOrder, merged}
+use Rattle.merge.specs.Merged.{met, firstHas, secondHas, supplier, supplierStall, latestName, mergedNames, mergedYields, orderBetween, mergedOrder, merged, verdictBytes}
+use Rattle.merge.specs.Call.{refusedMeeting, acceptedMeeting, metTogether, metGood, metChecked, meetingCall}
 use Rattle.merge.proofs.Agreeing.{verdict-agree}
+use Rattle.merge.proofs.Pairs.{each-agree}
 use Rattle.merge.proofs.NewLabel.{newLabel-limit}
 
 -- Cases
@@ -109,12 +112,13 @@ module _ (n p : ℕ) (a : Table) (q : ℕ) (b : Table) where
   unfolding latestName
   latest-other r e = pick-neither (eqb r p) (eqb r q) (newName q) (newName p) (supplier n p a q b r .names (supplierStall n p a q b r) r) e
 
-  never-other : (r : ℕ) → latestName n p a q b r ≡ Never → met n p a q b r ≡ false
+  -- who has no name was not met, and the supplier has none
+  never-other : (r : ℕ) → latestName n p a q b r ≡ Never → (met n p a q b r ≡ false) × (supplier n p a q b r .names (supplierStall n p a q b r) r ≡ Never)
   never-other r z = go (met n p a q b r) refl
     where
-      go : (t : Bool) → met n p a q b r ≡ t → met n p a q b r ≡ false
+      go : (t : Bool) → met n p a q b r ≡ t → (t ≡ false) × (supplier n p a q b r .names (supplierStall n p a q b r) r ≡ Never)
       go true e = absurd (latest-met r e z)
-      go false e = e
+      go false e = (refl, sym (latest-other r e) ∙ z)
 
   -- the own row of either is the new list
   pub own-row : (own r : ℕ) → met n p a q b own ≡ true → mergedNames n p a q b own r ≡ latestName n p a q b r
@@ -128,6 +132,11 @@ module _ (n p : ℕ) (a : Table) (q : ℕ) (b : Table) where
   yields-other : (r : ℕ) → met n p a q b r ≡ false → mergedYields n p a q b r ≡ supplier n p a q b r .yields r
   unfolding mergedYields
   yields-other r e = pick-neither (eqb r p) (eqb r q) (a .current) (b .current) (supplier n p a q b r .yields r) e
+
+  marked-met : (r s : ℕ) → met n p a q b s ≡ true → (latestName n p a q b r ≡ Never → ⊥) → mergedOrder n p a q b r s ≡ true
+  unfolding mergedOrder
+  marked-met r s is h =
+      ap (λ t. cond t (not (isNever (latestName n p a q b r))) (not (met n p a q b r) && orderBetween n p a q b r s)) is ∙ not-never (latestName n p a q b r) h
 
   supplied-by : (r : ℕ) (t : Bool) → firstHas n p a q b r ≡ t → supplier n p a q b r .names (supplierStall n p a q b r) r ≡ cond t a b .names (cond t p q) r
   supplied-by r t f = ap (λ z. cond z a b .names (cond z p q) r) f
@@ -221,11 +230,6 @@ module _ {n p : ℕ} {a : Table} {q : ℕ} {b : Table} (w : Meets n p a q b) whe
       (λ e. and-holds (not (met n p a q b r)) (orderBetween n p a q b r r) .1
       (ap not e, between-self n p a q b r (supplied r .marked-self r i j (λ z. h (latest-other n p a q b r e ∙ z)))))
 
-  marked-met : (r s : ℕ) → met n p a q b s ≡ true → (latestName n p a q b r ≡ Never → ⊥) → mergedOrder n p a q b r s ≡ true
-  unfolding mergedOrder
-  marked-met r s is h =
-      ap (λ t. cond t (not (isNever (latestName n p a q b r))) (not (met n p a q b r) && orderBetween n p a q b r s)) is ∙ not-never (latestName n p a q b r) h
-
   -- the table of either is well made
   pub merged-made : (own current : ℕ) → met n p a q b own ≡ true → current ≤ yieldLimit → Made n own (merged n p a q b current)
   unfolding merged
@@ -237,16 +241,16 @@ module _ {n p : ℕ} {a : Table} {q : ℕ} {b : Table} (w : Meets n p a q b) whe
         names-in = names-in;
         diagonal = λ r i j. diagonal r i j ∙ sym (row r);
         unheard-row = λ r c i j k l z.
-            let e = never-other n p a q b r (sym (row r) ∙ z) in
-            names-other n p a q b r c e ∙ supplied r .unheard-row r c i j k l (sym (latest-other n p a q b r e) ∙ sym (row r) ∙ z);
+            let (e, none) = never-other n p a q b r (sym (row r) ∙ z) in
+            names-other n p a q b r c e ∙ supplied r .unheard-row r c i j k l none;
         unheard-yield = λ r i j z.
-            let e = never-other n p a q b r (sym (row r) ∙ z) in
-            yields-other n p a q b r e ∙ supplied r .unheard-yield r i j (sym (latest-other n p a q b r e) ∙ sym (row r) ∙ z);
+            let (e, none) = never-other n p a q b r (sym (row r) ∙ z) in
+            yields-other n p a q b r e ∙ supplied r .unheard-yield r i j none;
         marks-heard = λ r s i j k l m.
             let h = marks-heard r s i j k l m in
             (λ z. h .0 (sym (row r) ∙ z), λ z. h .1 (sym (row s) ∙ z));
         marked-self = λ r i j h. marked-self r i j (λ z. h (row r ∙ z));
-        marked-own = λ r i j h. marked-met r own is (λ z. h (row r ∙ z));
+        marked-own = λ r i j h. marked-met n p a q b r own is (λ z. h (row r ∙ z));
       }
 
 -- A second meeting at once
@@ -307,6 +311,14 @@ again-zero {n} {p} {a} {q} {b} w c d r i j =
 
 -- Images
 
+module _ (s u : List ℕ) (n p q : ℕ) where
+  -- what a meeting leaves of the two
+  abbrev pub firstAfter : List ℕ
+  firstAfter = encode n p (merged n p (tableOf s n) q (tableOf u n) (tableOf s n .current))
+
+  abbrev pub secondAfter : List ℕ
+  secondAfter = encode n q (merged n p (tableOf s n) q (tableOf u n) (tableOf u n .current))
+
 pub meets : {s u : List ℕ} {n p q : ℕ} → Accepted s n p → Accepted u n q → (p ≡ q → ⊥) → undecided n p (tableOf s n) q (tableOf u n) ≡ false
     → Meets n p (tableOf s n) q (tableOf u n)
 meets w v differ decided =
@@ -322,8 +334,8 @@ meets w v differ decided =
     }
 
 pub meeting-accepted : {s u : List ℕ} {n p q : ℕ} → Accepted s n p → Accepted u n q → (p ≡ q → ⊥) → undecided n p (tableOf s n) q (tableOf u n) ≡ false
-    → Accepted (encode n p (merged n p (tableOf s n) q (tableOf u n) (tableOf s n .current))) n p
-    × Accepted (encode n q (merged n p (tableOf s n) q (tableOf u n) (tableOf u n .current))) n q
+    → Accepted (firstAfter s u n p q) n p
+    × Accepted (secondAfter s u n p q) n q
 meeting-accepted {s} {u} {n} {p} {q} w v differ decided =
     let a = tableOf s n in
     let b = tableOf u n in
@@ -347,3 +359,38 @@ again-zero-images {n} {p} {a} {q} {b} w from to c d e f r i j =
     (λ s. read-mark n p first from to (w .p-from) (w .p-to) x r s i j)
     (λ s. read-mark n q second from to (w .q-from) (w .q-to) y r s i j)
     ∙ again-zero w c d r i j
+
+-- the same for two accepted images, and so they belong together still
+module _ {s u : List ℕ} {n p q : ℕ} (w : Accepted s n p) (v : Accepted u n q) (differ : p ≡ q → ⊥) where
+  pub meeting-zero : undecided n p (tableOf s n) q (tableOf u n) ≡ false → (r : ℕ) → 1 ≤ r → r ≤ n
+      → verdict n p (tableOf (firstAfter s u n p q) n) q (tableOf (secondAfter s u n p q) n) r ≡ 0
+  meeting-zero decided r i j =
+      let m = meets w v differ decided in
+      again-zero-images m (w .frame .n-from) (w .frame .n-to) (tableOf s n .current) (tableOf u n .current) (m .first .current-in) (m .second .current-in) r i j
+
+  pub meeting-decided : undecided n p (tableOf s n) q (tableOf u n) ≡ false
+      → undecided n p (tableOf (firstAfter s u n p q) n) q (tableOf (secondAfter s u n p q) n) ≡ false
+  unfolding undecided
+  meeting-decided decided = some-fails n _ .1 (λ r i j. ap (λ x. eqb x 9) (meeting-zero decided r i j))
+
+  pub meeting-zeros : undecided n p (tableOf s n) q (tableOf u n) ≡ false
+      → verdictBytes n p (tableOf (firstAfter s u n p q) n) q (tableOf (secondAfter s u n p q) n) ≡ each n (λ r. 0 ∷ [])
+  unfolding verdictBytes
+  meeting-zeros decided = each-agree n _ (λ r. 0 ∷ []) (λ r i j. ap (λ x. x ∷ []) (meeting-zero decided r i j))
+
+-- Calls
+
+module _ {s u : List ℕ} {n p q : ℕ} (w : Accepted s n p) (v : Accepted u n q) (differ : p ≡ q → ⊥) (buffer : List ℕ) (long : length buffer ≡ n) where
+  -- none of 1 to 8 applies
+  pub meeting-called : meetingCall s u buffer ≡ metTogether s u buffer n p q
+  unfolding meetingCall metChecked metGood
+  meeting-called = rw (checked-accepted w, checked-accepted v, eq-eqb n n refl, ne-eqb p q differ, eq-eqb (length buffer) n long)
+
+  -- labels are below 256, so 256 + 9 says that the images do not belong together
+  pub nine-iff : (meetingCall s u buffer .answer ≡ 256 + 9) ↔ (undecided n p (tableOf s n) q (tableOf u n) ≡ true)
+  unfolding metTogether
+  nine-iff = rw meeting-called (go (undecided n p (tableOf s n) q (tableOf u n)))
+    where
+      go : (t : Bool) → (cond t (refusedMeeting s u buffer 9) (acceptedMeeting s u buffer n p q) .answer ≡ 256 + 9) ↔ (t ≡ true)
+      go true = (λ e. refl, λ e. refl)
+      go false = (λ e. absurd (omega (arith, newLabel-limit n p (tableOf s n) q (tableOf u n), w .frame .n-to)), λ e. absurd (false≢true e))

@@ -1,7 +1,7 @@
 -- The verdicts that the code finds by masks are those of the tables.
 use Prim.Native.Nat.{ℕ, zero, suc, _+_, _-_, _*_, _≤_, _<_}
 use mathlib.Core.Path.{_≡_, refl, sym, ap, subst, _∙_}
-use mathlib.Core.Bool.{Bool, _&&_, _||_, not}
+use mathlib.Core.Bool.{Bool, _||_, not}
 use mathlib.Core.List.{List, []}
 use native.Mathlib.Omega.{arith}
 use native.Mathlib.Decide.{ℕ-discrete}
@@ -9,7 +9,7 @@ use lib.Bits.{bitAnd}
 use lib.Dec.{eqb}
 use lib.ListN.{length, getD, set, length-set, replicate}
 use lib.Seq.{getD-set-same, getD-set-other}
-use Rattle.image.specs.Stalls.{some, bits, has}
+use Rattle.image.specs.Stalls.{bits, has}
 use Rattle.image.specs.Layout.{orderPlace, orderAt, nameAt, markAt}
 use Rattle.image.specs.Frame.{Framed}
 use Rattle.image.specs.Row.{neverAt, ownRow}
