@@ -34,15 +34,22 @@ module _ (n own : ℕ) (t : Table) (n-from : 2 ≤ n) (n-to : n ≤ largest) (ow
   proper : (r c : ℕ) → 1 ≤ r → r ≤ n → 1 ≤ c → c ≤ n → Proper (t .names r c)
   proper r c i j k l = proper-in n c (t .names r c) (m .names-in r c i j k l)
 
-  -- the image says what the table says, so that is well made
+  -- the image says what the table says
+  pub read-name : (r c : ℕ) → 1 ≤ r → r ≤ n → 1 ≤ c → c ≤ n → nameAt (encode n own t) n r c ≡ t .names r c
+  read-name r c i j k l = name-encode n own t r c i j k l (proper r c i j k l)
+
+  pub read-mark : (r s : ℕ) → 1 ≤ r → r ≤ n → 1 ≤ s → s ≤ n → markAt (encode n own t) n r s ≡ t .order r s
+  read-mark r s i j k l = mark-encode n own t r i j s k ∙ ap (λ b. b && t .order r s) (le-leb s n l)
+
+  -- so that is well made
   read-made : Made n own (tableOf image n)
   unfolding tableOf
   read-made =
       made-agree n own (tableOf image n) t own-from own-to
       (current-encode n own t)
-      (λ r c i j k l. name-encode n own t r c i j k l (proper r c i j k l))
+      read-name
       (yield-encode n own t)
-      (λ r s i j k l. mark-encode n own t r i j s k ∙ ap (λ b. b && t .order r s) (le-leb s n l))
+      read-mark
       m
 
   -- and it has neither a label without a partner nor a mark above n

@@ -1,7 +1,7 @@
 -- The verdicts that the code finds by masks are those of the tables.
 use Prim.Native.Nat.{ℕ, zero, suc, _+_, _-_, _*_, _≤_, _<_}
-use mathlib.Core.Path.{_≡_, refl, sym, ap, ap₂, subst, _∙_}
-use mathlib.Core.Bool.{Bool, _&&_, _||_, not}
+use mathlib.Core.Path.{_≡_, refl, sym, ap, subst, _∙_}
+use mathlib.Core.Bool.{Bool, _||_, not}
 use mathlib.Core.List.{List, []}
 use native.Mathlib.Omega.{arith}
 use native.Mathlib.Decide.{ℕ-discrete}
@@ -9,7 +9,7 @@ use lib.Bits.{bitAnd}
 use lib.Dec.{eqb}
 use lib.ListN.{length, getD, set, length-set, replicate}
 use lib.Seq.{getD-set-same, getD-set-other}
-use Rattle.image.specs.Stalls.{some, bits, has}
+use Rattle.image.specs.Stalls.{bits, has}
 use Rattle.image.specs.Layout.{orderPlace, orderAt, nameAt, markAt}
 use Rattle.image.specs.Frame.{Framed}
 use Rattle.image.specs.Row.{neverAt, ownRow}
@@ -17,12 +17,12 @@ use Rattle.image.specs.Encode.{Table, tableOf}
 use Rattle.image.specs.declared.Name.{Name}
 use Rattle.image.specs.declared.Entry.{Entry}
 use Rattle.image.proofs.Bits.{common-test}
-use Rattle.image.proofs.Search.{some-agree}
 use Rattle.image.proofs.OwnRow.{own-row-name}
-use Rattle.merge.specs.Known.{isNever, sameMeeting, common, known}
+use Rattle.merge.specs.Known.{isNever, common, known}
 use Rattle.merge.specs.Verdict.{sameName, judge, verdict}
 use Rattle.merge.specs.Rows.{nameIn}
 use Rattle.merge.specs.Judged.{byteOf, Judged}
+use Rattle.merge.proofs.Agreeing.{known-agree}
 
 -- One head's latest of r is known to the other, by bytes
 
@@ -33,18 +33,12 @@ module _ (s u : List ℕ) (n p q : ℕ) (f : Framed s n p) (g : Framed u n q) (m
   theirs-name : (c : ℕ) → 1 ≤ c → c ≤ n → nameIn theirs c ≡ nameAt u n q c
   theirs-name c a b = ap (λ w. nameIn w c) i ∙ own-row-name u n q g c a b
 
-  common-agree : (t : ℕ) → 1 ≤ t → t ≤ n → common n (nameIn mine) (nameIn theirs) t ≡ common n (nameAt s n p) (nameAt u n q) t
-  unfolding common
-  common-agree t a b = some-agree n _ _ (λ d k l. ap₂ (λ x y. sameMeeting t x d y) (mine-name t a b) (theirs-name d k l))
-
   pub known-bytes : (r order mask : ℕ) → 1 ≤ r → r ≤ n → order ≡ orderAt s n r → mask ≡ bits n (common n (nameIn mine) (nameIn theirs))
       → (isNever (nameIn mine r) || not (eqb (bitAnd order mask) 0)) ≡ known n (nameAt s n p) (markAt s n r) (nameAt u n q) r
   unfolding known markAt
   known-bytes r order mask a b j k =
-      ap₂ _||_ (ap isNever (mine-name r a b))
-      (ap (λ z. not (eqb (bitAnd order z) 0)) k
-      ∙ common-test n order (common n (nameIn mine) (nameIn theirs))
-      ∙ some-agree n _ _ (λ t c d. ap₂ _&&_ (ap (λ z. has z t) j) (common-agree t c d)))
+      ap (λ z. isNever (nameIn mine r) || z) (ap (λ z. not (eqb (bitAnd order z) 0)) k ∙ common-test n order (common n (nameIn mine) (nameIn theirs)))
+      ∙ known-agree n (nameIn mine) (nameAt s n p) (nameIn theirs) (nameAt u n q) (has order) (markAt s n r) mine-name theirs-name (λ t c d. ap (λ z. has z t) j) r a b
 
 pub verdict-bytes : (s u : List ℕ) (n p q : ℕ) → Framed s n p → Framed u n q → (mine theirs : List Entry) → mine ≡ ownRow s n p → theirs ≡ ownRow u n q
     → (r order other mask back : ℕ) → 1 ≤ r → r ≤ n → order ≡ orderAt s n r → other ≡ orderAt u n r

@@ -1,5 +1,6 @@
 -- The lemmas of `merge`. What crates above cite is `pub mod`.
 pub mod Commons
+pub mod Agreeing
 pub mod Judging
 pub mod Marks
 pub mod OrderBytes
@@ -17,3 +18,4 @@ pub mod BodyWritten
 pub mod AfterMeeting
 pub mod MeetingWritten
 pub mod Together
+pub mod AfterLaws
