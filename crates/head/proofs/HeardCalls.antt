@@ -1,19 +1,14 @@
 -- The heard list, by what the check answers and by the buffer.
-use Prim.Native.Nat.{ℕ, _+_, _*_, _≤_}
+use Prim.Native.Nat.{ℕ, _+_, _*_}
 use mathlib.Core.Path.{_≡_, refl, sym, ap, subst, _∙_}
 use mathlib.Core.List.{List}
-use native.Mathlib.Omega.{arith}
 use borrow.Author.Tests.{eq-eqb, ne-eqb}
 use lib.ListN.{length}
-use Rattle.image.specs.Check.{checked, numberOf}
+use Rattle.image.specs.Check.{checked}
 use Rattle.image.specs.declared.Header.{Header}
 use Rattle.image.specs.declared.Checked.{Checked}
 use Rattle.image.specs.declared.Checked.the-variants.{Good, Refused}
-use Rattle.image.proofs.Stages.{number-le}
 use Rattle.head.specs.Heard.{HeardList, HeardInto, HeardFrom, HeardCall}
-
-pub refused-le : (s : List ℕ) {k : ℕ} → checked s ≡ Refused k → k ≤ 6
-refused-le s {k} e = omega (arith, number-le s, ap numberOf e)
 
 module _ (s buffer : List ℕ) where
   pub heard-refused : {k code : ℕ} → checked s ≡ Refused k → code ≡ k → HeardCall s buffer (256 + code) buffer

@@ -7,6 +7,7 @@ ghost use lib.ListN.{length, take};
 ghost use Rattle.head.specs.Calls.{Outcome, freshCall, milkingCall};
 ghost use Rattle.head.specs.Heard.{HeardCall};
 ghost use Rattle.image.specs.Check.{checked, numberOf};
+ghost use Rattle.merge.specs.Call.{MeetingOutcome, meetingCall};
 use image::Checked;
 use image::Head;
 
@@ -91,4 +92,15 @@ pub extern "C" fn wilbryn_heard(image: &[u8], records: &mut [u8]) -> u32
         return 264;
     }
     heard::heard_list(image, n, own, records)
+}
+
+// The label of a meeting, or 256 plus the number of its refusal.
+#[no_mangle]
+pub extern "C" fn wilbryn_meeting(first: &mut [u8], second: &mut [u8], verdicts: &mut [u8]) -> u32
+    ensures { λ r.
+        ⌜ _≡_ {A = MeetingOutcome}
+        (record { answer = r; first = now (first .exit); second = now (second .exit); verdicts = now (verdicts .exit) })
+        (meetingCall (now (first .entry)) (now (second .entry)) (now (verdicts .entry))) ⌝ }
+{
+    merge::meeting::meeting(first, second, verdicts)
 }

@@ -1,6 +1,6 @@
 -- The check, stage by stage: the first number that applies is the answer.
 use Prim.Native.Nat.{ℕ, _+_, _*_, _≤_}
-use mathlib.Core.Path.{_≡_, refl, sym, _∙_}
+use mathlib.Core.Path.{_≡_, refl, sym, ap, _∙_}
 use mathlib.Core.Bool.{Bool, true, false, _&&_, not, cond, true≢false}
 use mathlib.Core.List.{List}
 use native.Mathlib.Omega.{arith}
@@ -94,3 +94,6 @@ unfolding checked
 number-le s =
     number-cond (badCount s) _ _ (omega arith)
     (number-cond (badLength s) _ _ (omega arith) (body-number s (getD s 0 0) (getD s 1 0)))
+
+pub refused-le : (s : List ℕ) {k : ℕ} → checked s ≡ Refused k → k ≤ 6
+refused-le s {k} e = omega (arith, number-le s, ap numberOf e)

@@ -18,4 +18,5 @@ pub mod BodyWritten
 pub mod AfterMeeting
 pub mod MeetingWritten
 pub mod Together
+pub mod MeetingCalls
 pub mod AfterLaws

@@ -13,9 +13,9 @@ use crate::Sets;
 use crate::known::is_never;
 use image::Entry;
 use image::bytes::wide;
-use image::rows::own_row;
 use image::marks::pick;
 use image::marks::widen;
+use image::rows::own_row;
 
 // The stalls by who has them.
 fn sorted(verdicts: [u8; 8], n: u8, p: u8, q: u8) -> Sets

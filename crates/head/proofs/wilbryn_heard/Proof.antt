@@ -4,8 +4,9 @@ use mathlib.Core.Path.{_≡_, sym, ap, _∙_}
 use native.Mathlib.Omega.{arith}
 use borrow.Author.Needs.{needs}
 use Rattle.image.specs.Check.{numberOf}
+use Rattle.image.proofs.Stages.{refused-le}
 use Rattle.image.proofs.Accepted.{accepted}
-use Rattle.head.proofs.HeardCalls.{refused-le, heard-refused, heard-short, heard-done}
+use Rattle.head.proofs.HeardCalls.{heard-refused, heard-short, heard-done}
 use Rattle.head.proofs.wilbryn_heard.Statement.{statement}
 use Rattle.head.proofs.wilbryn_heard.Tie as tie
 
