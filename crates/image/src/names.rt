@@ -17,7 +17,10 @@ use crate::bytes::word_at;
 fn bad_name(n: usize, limit: usize, column: usize, partner: usize, label: usize) -> bool
     ensures { λ r. ⌜ r ≡ badName n limit column partner label ⌝ }
 {
-    ((partner == 0) & !(label == 0)) | (n < partner) | (partner == column) | (limit < label)
+    if partner == 0 {
+        return !(label == 0) | (partner == column);
+    }
+    (n < partner) | (partner == column) | (limit < label)
 }
 
 // Some name of the row that starts at a place is bad by itself.
@@ -74,8 +77,12 @@ fn bad_row(
     let there = ownrow + shift;
     let differs = !((image[here] == image[there]) & (image[here + 1] == image[there + 1]));
     let heard = !(image[there] == 0);
+    let bad = bad_in_row(image, n, limit, at) | differs;
+    if heard {
+        return bad;
+    }
     let filled = some_in_row(image, n, at) | !(word_at(image, yields) == 0);
-    bad_in_row(image, n, limit, at) | differs | (!heard & filled)
+    bad | filled
 }
 
 // Some row is bad.

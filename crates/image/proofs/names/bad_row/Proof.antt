@@ -1,9 +1,9 @@
 -- The row of a stall is bad.
 use Prim.Native.Nat.{ℕ, _+_, _-_, _*_, _<_}
-use mathlib.Core.Path.{_≡_, refl, ap}
+use mathlib.Core.Path.{_≡_, refl, sym, ap, _∙_}
 use native.Mathlib.Omega.{arith}
 use borrow.Author.Needs.{needs}
-use mathlib.Core.Bool.{Bool, _&&_, _||_, not}
+use mathlib.Core.Bool.{Bool, true, false, _&&_, _||_, not}
 use mathlib.Core.List.{List}
 use lib.Dec.{eqb}
 use lib.ListN.{getD}
@@ -15,19 +15,33 @@ use Rattle.image.proofs.Places.{row-at-within}
 use Rattle.image.proofs.names.bad_row.Statement.{statement}
 use Rattle.image.proofs.names.bad_row.Tie as tie
 
--- what the code puts together is the definition's test
-row-test : (s : List ℕ) (n limit own r at ownrow yields x : ℕ) (bad some-name : Bool)
-    → RowAt s n own r at ownrow yields → limit ≡ labelLimit n
-    → bad ≡ some n (λ c. badName n limit c (getD s (at + (c - 1) * 2) 0) (getD s (at + (c - 1) * 2 + 1) 0))
-    → some-name ≡ some n (λ c. not (eqb (getD s (at + (c - 1) * 2) 0) 0))
-    → x ≡ word s yields
-    → (bad
-    || not (eqb (getD s (at + (r - 1) * 2) 0) (getD s (ownrow + (r - 1) * 2) 0) && eqb (getD s (at + (r - 1) * 2 + 1) 0) (getD s (ownrow + (r - 1) * 2 + 1) 0))
-    || not (not (eqb (getD s (ownrow + (r - 1) * 2) 0) 0)) && (some-name || not (eqb x 0)))
-    ≡ badRow s n own r
-unfolding badRow badDiagonal badUnheard heardAt
-row-test s n limit own r at ownrow yields x bad some-name w e b m y =
-    rw (b, m, y, e, w .row-is, w .ownrow-is, w .yields-is)
+module _ (s : List ℕ) (n limit own r at ownrow yields : ℕ) (bad : Bool) (w : RowAt s n own r at ownrow yields) (limit-is : limit ≡ labelLimit n)
+    (bad-is : bad ≡ some n (λ c. badName n limit c (getD s (at + (c - 1) * 2) 0) (getD s (at + (c - 1) * 2 + 1) 0))) where
+  abbrev differs : Bool
+  differs =
+      not (eqb (getD s (at + (r - 1) * 2) 0) (getD s (ownrow + (r - 1) * 2) 0) && eqb (getD s (at + (r - 1) * 2 + 1) 0) (getD s (ownrow + (r - 1) * 2 + 1) 0))
+
+  abbrev no-name : Bool
+  no-name = eqb (getD s (ownrow + (r - 1) * 2) 0) 0
+
+  -- what the code puts together is the definition's test
+  row-test : (x : ℕ) (some-name : Bool) → some-name ≡ some n (λ c. not (eqb (getD s (at + (c - 1) * 2) 0) 0)) → x ≡ word s yields
+      → (bad || differs || not (not no-name) && (some-name || not (eqb x 0))) ≡ badRow s n own r
+  unfolding badRow badDiagonal badUnheard heardAt
+  row-test x some-name m y = rw (bad-is, m, y, limit-is, w .row-is, w .ownrow-is, w .yields-is)
+
+  -- the row of a heard stall
+  row-heard : not no-name ≡ true → (bad || differs) ≡ badRow s n own r
+  row-heard e =
+      go (bad || differs) (not no-name) _ e ∙ row-test (word s yields) (some n (λ c. not (eqb (getD s (at + (c - 1) * 2) 0) 0))) refl refl
+    where
+      go : (b h z : Bool) → h ≡ true → b ≡ (b || not h && z)
+      go true h z e = refl
+      go false h z e = rw e
+
+  row-unheard : (x : ℕ) (some-name : Bool) → not no-name ≡ false → some-name ≡ some n (λ c. not (eqb (getD s (at + (c - 1) * 2) 0) 0)) → x ≡ word s yields
+      → (bad || differs || (some-name || not (eqb x 0))) ≡ badRow s n own r
+  row-unheard x some-name e m y = ap (λ h. bad || differs || not h && (some-name || not (eqb x 0))) (sym e) ∙ row-test x some-name m y
 
 pub bad-row-spec : {M : Type 1} → statement M
 bad-row-spec =
@@ -45,6 +59,7 @@ bad-row-spec =
     (λ c. omega (arith, row-at-within (c .before .before .before .before .before .pre .0)))
     (λ c. omega (arith, row-at-within (c .before .before .before .before .before .before .pre .0)))
     (λ c κs. omega (arith, row-at-within (c .before .before .before .before .before .before .pre .0)))
-    (λ c κs. omega (arith, row-at-within (c .before .before .before .before .before .before .before .pre .0)))
+    (λ c. row-heard (c .before .before .before .before .before .before .before .before .args .image .now) (c .before .before .before .before .before .before .before .before .args .n) (c .before .before .before .before .before .before .before .before .args .limit) (c .before .before .before .before .before .before .before .before .args .own) (c .before .before .before .before .before .before .before .before .args .r) (c .before .before .before .before .before .before .before .before .args .at) (c .before .before .before .before .before .before .before .before .args .ownrow) (c .before .before .before .before .before .before .before .before .args .yields) (c .before .bad-in-row .result) (c .before .before .before .before .before .before .before .before .pre .0) (c .before .before .before .before .before .before .before .before .pre .1) (c .before .bad-in-row .ensures) (c .if1 .taken))
     (λ c κs. omega (arith, row-at-within (c .before .before .before .before .before .before .before .before .pre .0)))
-    (λ c. row-test _ _ _ _ _ _ _ _ _ _ _ (c .before .before .before .before .before .before .before .before .before .pre .0) (c .before .before .before .before .before .before .before .before .before .pre .1) (c .bad-in-row .ensures) (c .before .before .some-in-row .ensures) (c .before .word-at .ensures)))
+    (λ c κs. omega (arith, row-at-within (c .before .before .before .before .before .before .before .before .before .pre .0)))
+    (λ c. row-unheard (c .before .before .before .before .before .before .before .before .before .before .args .image .now) (c .before .before .before .before .before .before .before .before .before .before .args .n) (c .before .before .before .before .before .before .before .before .before .before .args .limit) (c .before .before .before .before .before .before .before .before .before .before .args .own) (c .before .before .before .before .before .before .before .before .before .before .args .r) (c .before .before .before .before .before .before .before .before .before .before .args .at) (c .before .before .before .before .before .before .before .before .before .before .args .ownrow) (c .before .before .before .before .before .before .before .before .before .before .args .yields) (c .before .before .before .bad-in-row .result) (c .before .before .before .before .before .before .before .before .before .before .pre .0) (c .before .before .before .before .before .before .before .before .before .before .pre .1) (c .before .before .before .bad-in-row .ensures) (c .word-at .result) (c .before .some-in-row .result) (c .before .before .if1 .left) (c .before .some-in-row .ensures) (c .word-at .ensures)))
