@@ -67,10 +67,10 @@ unfolding evaluated fresh meet run verdictsAfter
 verdict-examples = (refl, refl, refl)
 
 -- both images of number 9's example do not belong together
-nine-first : List ℕ
+unfoldable pub nine-first : List ℕ
 nine-first = 2 ∷ 1 ∷ 0 ∷ 0 ∷ 2 ∷ 0 ∷ 1 ∷ 0 ∷ 2 ∷ 0 ∷ 1 ∷ 0 ∷ 0 ∷ 0 ∷ 0 ∷ 0 ∷ 3 ∷ 3 ∷ []
 
-nine-second : List ℕ
+unfoldable pub nine-second : List ℕ
 nine-second = 2 ∷ 2 ∷ 0 ∷ 0 ∷ 2 ∷ 1 ∷ 1 ∷ 1 ∷ 2 ∷ 1 ∷ 1 ∷ 1 ∷ 0 ∷ 0 ∷ 0 ∷ 0 ∷ 3 ∷ 3 ∷ []
 
 nine-example : undecided 2 1 (tableOf nine-first 2) 2 (tableOf nine-second 2) ≡ true

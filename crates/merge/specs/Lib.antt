@@ -10,3 +10,4 @@ pub mod Call
 pub mod Body
 pub mod Orders
 pub mod Examples
+pub mod CallExamples
