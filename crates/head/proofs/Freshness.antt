@@ -1,7 +1,7 @@
 -- A fresh table, by the tests in their order.
 use Prim.Native.Nat.{ℕ, zero, suc, _+_, _-_, _*_, _≤_, _<_}
 use mathlib.Core.Path.{_≡_, refl, sym, ap, _∙_}
-use mathlib.Core.Bool.{Bool, true, false, _&&_, not}
+use mathlib.Core.Bool.{Bool, true, false, _&&_, not, cond}
 use mathlib.Core.List.{List, [], _∷_}
 use native.Mathlib.Omega.{arith}
 use native.Mathlib.Nat.{mul-le-mul}
@@ -55,3 +55,21 @@ module _ (s : List ℕ) (n stall : ℕ) where
       let (p, q) = length-range n a in
       rw (a, eq-eqb (length s) (lengthOf n) b, c)
       (ap accepted (d ∙ ap (take (length s)) e ∙ ap (λ k. take k (n ∷ stall ∷ replicate 154 0)) b ∙ cut (lengthOf n) p q))
+
+  -- For callers: none of 1 to 3 applies ..
+  pub fresh-taken : 2 ≤ n → n ≤ largest → length s ≡ lengthOf n → 1 ≤ stall → stall ≤ n → accepted (freshImage n stall) ≡ freshCall s n stall
+  unfolding freshCall
+  fresh-taken i j e k l = rw (eq-eqb (length s) (lengthOf n) e, le-leb 2 n i, le-leb n largest j, le-leb 1 stall k, le-leb stall n l)
+
+  -- .. and whoever is answered 0 holds the fresh image
+  pub fresh-zero : (out : List ℕ) → _≡_ {A = Outcome} (record { answer = 0; image = out }) (freshCall s n stall) → out ≡ freshImage n stall
+  unfolding freshCall
+  fresh-zero out = go (not (leb 2 n && leb n largest)) (not (eqb (length s) (lengthOf n))) (badStall n stall)
+    where
+      go : (x y z : Bool)
+          → _≡_ {A = Outcome} (record { answer = 0; image = out }) (cond x (refused 1 s) (cond y (refused 2 s) (cond z (refused 3 s) (accepted (freshImage n stall)))))
+          → out ≡ freshImage n stall
+      go true y z e = let d : _≡_ {A = ℕ} 0 1 = ap (λ o. o .answer) e in absurd (omega arith)
+      go false true z e = let d : _≡_ {A = ℕ} 0 2 = ap (λ o. o .answer) e in absurd (omega arith)
+      go false false true e = let d : _≡_ {A = ℕ} 0 3 = ap (λ o. o .answer) e in absurd (omega arith)
+      go false false false e = ap (λ o. o .image) e

@@ -83,3 +83,12 @@ pair-between {h} {m = m} (suc k) o q s =
 pub one-pair : {h : History} {r t : ℕ} (k : ℕ) → Of h r k → Of h t k → SamePair r (partnerOf h k r) t (partnerOf h k t)
 one-pair zero o q = absurd (omega (arith, of-pos o))
 one-pair (suc k) o q = pair-trans (pair-sym (partner-pair o)) (partner-pair q)
+
+-- the partner of either of the two
+pub partner-first : (h : History) (k : ℕ) → partnerOf h (suc k) (h k .first) ≡ h k .second
+unfolding partnerOf
+partner-first h k = rw (eq-eqb (h k .first) (h k .first) refl)
+
+pub partner-second : (h : History) (k : ℕ) → (h k .first ≡ h k .second → ⊥) → partnerOf h (suc k) (h k .second) ≡ h k .first
+unfolding partnerOf
+partner-second h k f = rw (ne-eqb (h k .first) (h k .second) f)

@@ -380,6 +380,13 @@ module _ {s u : List ℕ} {n p q : ℕ} (w : Accepted s n p) (v : Accepted u n q
 
 -- Calls
 
+-- 8, where the buffer has not n bytes
+pub meeting-short : {s u : List ℕ} {n p q : ℕ} → Accepted s n p → Accepted u n q → (p ≡ q → ⊥) → (buffer : List ℕ) → (length buffer ≡ n → ⊥)
+    → meetingCall s u buffer ≡ refusedMeeting s u buffer 8
+unfolding meetingCall metChecked metGood
+meeting-short {n = n} {p = p} {q = q} w v differ buffer short =
+    rw (checked-accepted w, checked-accepted v, eq-eqb n n refl, ne-eqb p q differ, ne-eqb (length buffer) n short)
+
 module _ {s u : List ℕ} {n p q : ℕ} (w : Accepted s n p) (v : Accepted u n q) (differ : p ≡ q → ⊥) (buffer : List ℕ) (long : length buffer ≡ n) where
   -- none of 1 to 8 applies
   pub meeting-called : meetingCall s u buffer ≡ metTogether s u buffer n p q

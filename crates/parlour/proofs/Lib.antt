@@ -1,0 +1,14 @@
+-- The lemmas of `parlour`. What crates above cite is `pub mod`.
+pub mod Names
+pub mod Says
+pub mod Verdicts
+pub mod NewLabels
+pub mod Merging
+pub mod Images
+pub mod Histories
+pub mod Kept
+pub mod Milkings
+pub mod Meetings
+pub mod Runs
+pub mod Existence
+pub mod Theory

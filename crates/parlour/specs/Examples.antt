@@ -1,0 +1,40 @@
+-- Document 01's lists, by evaluation of what a history says.
+use Prim.Native.Nat.{ℕ, zero, suc}
+use mathlib.Core.Path.{_≡_, refl}
+use mathlib.Core.List.{List, [], _∷_, _++_, map, flatMap}
+use lib.ListN.{replicate}
+use Rattle.causality.specs.Event.{takesPart}
+use Rattle.causality.specs.Past.{last, newest}
+use Rattle.causality.specs.Clock.{put, maxima, joined, clocks, latest, latestIn, inPast}
+use Rattle.causality.specs.Best.{newer, best, upTo, verdicts}
+use Rattle.causality.specs.Meetings as Meetings
+use Rattle.labels.specs.Lowest.{elem, seek, lowestFree, keep}
+use Rattle.labels.specs.Label.{named as namedLabels, samePair, between, labelAt, current, labels, label}
+use Rattle.labels.specs.Name.{partnerOf}
+use Rattle.image.specs.Stalls.{each, bits}
+use Rattle.image.specs.Encode.{encode}
+use Rattle.parlour.specs.Item.{Item, milking, meeting, counts, history}
+use Rattle.parlour.specs.History.{meetings, events, yieldAfter, yieldAt}
+use Rattle.parlour.specs.Table.{nameIn, named, tableAt, tableAfter, imageAfter}
+
+-- whoever unfolds this unfolds all that a history is computed with
+unfoldable evaluated : Unit {0}
+unfolding takesPart last newest put maxima joined clocks latest latestIn inPast newer best upTo verdicts Meetings.meeting elem seek lowestFree keep namedLabels samePair between labelAt current labels label partnerOf each bits encode counts history meetings events yieldAfter yieldAt nameIn named tableAt tableAfter imageAfter flatMap
+evaluated = tt
+
+-- the listing, newest first, with a milking and a meeting that do not count: the image of head 3
+listing : List Item
+listing = meeting 2 3 (replicate 3 0) ∷ milking 1 1000 ∷ meeting 1 2 (replicate 3 0) ∷ meeting 3 1 (replicate 2 0) ∷ milking 1 0x12 ∷ []
+
+listing-image : imageAfter 3 (history 3 listing) 3
+    ≡ 3 ∷ 3 ∷ 0 ∷ 0 ∷ 2 ∷ 0 ∷ 1 ∷ 0 ∷ 0 ∷ 0 ∷ 2 ∷ 0 ∷ 3 ∷ 0 ∷ 2 ∷ 0 ∷ 2 ∷ 0 ∷ 3 ∷ 0 ∷ 2 ∷ 0 ∷ 0 ∷ 0x12 ∷ 0 ∷ 0 ∷ 0 ∷ 0 ∷ 7 ∷ 6 ∷ 6 ∷ []
+unfolding evaluated listing
+listing-image = refl
+
+-- N = 4, 1-2, 1-3, 2-4, then 3-4
+four : List Item
+four = meeting 2 4 (replicate 4 0) ∷ meeting 1 3 (replicate 4 0) ∷ meeting 1 2 (replicate 4 0) ∷ []
+
+four-verdicts : verdicts (events four) (meetings four) 4 3 4 ≡ 1 ∷ 2 ∷ 1 ∷ 2 ∷ []
+unfolding evaluated four
+four-verdicts = refl
