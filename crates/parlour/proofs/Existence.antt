@@ -1,6 +1,6 @@
 -- Every list of items has its calls.
 use Prim.Native.Nat.{ℕ, _≤_}
-use mathlib.Core.Path.{_≡_, refl, ap}
+use mathlib.Core.Path.{refl, ap}
 use mathlib.Core.List.{List, [], _∷_}
 use lib.ListN.{replicate, length-replicate}
 use Rattle.image.specs.Layout.{largest, lengthOf}
@@ -10,7 +10,7 @@ use Rattle.head.proofs.Freshness.{fresh-taken}
 use Rattle.merge.specs.Call.{meetingCall}
 use Rattle.parlour.specs.Item.{Item, milking, meeting}
 use Rattle.parlour.specs.Call.{Loan, FreshCall, MilkingCall, MeetingCall}
-use Rattle.parlour.specs.Run.{Images, Called, Run, start, milk, meet}
+use Rattle.parlour.specs.Run.{start, milk, meet}
 use Rattle.parlour.specs.Theory.{Items, RunOf}
 
 -- some loan: no contract looks at where a run lies

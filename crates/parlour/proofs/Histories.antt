@@ -1,12 +1,11 @@
 -- What one more meeting adds to what is read from a history.
-use Prim.Native.Nat.{ℕ, suc, _≤_, _<_}
+use Prim.Native.Nat.{ℕ, suc, _≤_}
 use mathlib.Core.Path.{_≡_, refl}
 use mathlib.Core.Bool.{Bool, true, false, cond}
 use mathlib.Core.List.{List, _∷_}
 use native.Mathlib.Omega.{arith}
 use borrow.Author.Tests.{eq-eqb, ne-eqb}
 use lib.Dec.{eqb}
-use Rattle.causality.specs.Event.{Event}
 use Rattle.causality.specs.Meetings as Meetings
 use Rattle.causality.specs.Meetings.{Joins, Agree}
 use Rattle.parlour.specs.Item.{Item, meeting}

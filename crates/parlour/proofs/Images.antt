@@ -1,5 +1,5 @@
 -- Tables that say what a history says, and their images.
-use Prim.Native.Nat.{ℕ, zero, suc, _≤_, _<_}
+use Prim.Native.Nat.{ℕ, zero, suc, _≤_}
 use mathlib.Core.Path.{_≡_, refl, sym, ap, ap₂, subst, _∙_}
 use mathlib.Core.Bool.{Bool, true, false, _&&_, cond}
 use native.Mathlib.Omega.{arith}
@@ -14,11 +14,8 @@ use Rattle.causality.proofs.Agreement.{agree-less, latest-agree, latestIn-agree
 use Rattle.labels.specs.Label.{label}
 use Rattle.labels.specs.Name.{partnerOf}
 use Rattle.labels.proofs.Rule.{label-agree}
-use Rattle.image.specs.Layout.{markAt, nameAt}
 use Rattle.image.specs.Encode.{Table, encode, tableOf}
-use Rattle.image.specs.declared.Meet.{Meet}
-use Rattle.image.specs.declared.Name.{Name}
-use Rattle.image.specs.declared.Name.the-variants.{Never, With}
+use Rattle.image.specs.declared.Name.the-variants.{With}
 use Rattle.image.proofs.Encoding.{Proper, name-encode, yield-encode, mark-encode, encode-agree}
 use Rattle.parlour.specs.Table.{nameIn, named, tableAt}
 use Rattle.parlour.proofs.Says.{Says}

@@ -7,6 +7,7 @@ pub mod Merging
 pub mod Images
 pub mod Histories
 pub mod Kept
+pub mod Put
 pub mod Milkings
 pub mod Meetings
 pub mod Runs

@@ -1,14 +1,14 @@
 -- A meeting of a list.
-use Prim.Native.Nat.{ℕ, zero, suc, _+_, _≤_, _<_}
+use Prim.Native.Nat.{ℕ, zero, suc, _+_, _≤_}
 use mathlib.Core.Path.{_≡_, refl, sym, ap, ap₂, subst, _∙_}
 use mathlib.Core.Bool.{Bool, true, false, cond}
 use mathlib.Core.List.{List, [], _∷_, _++_, map, map-append}
 use mathlib.Core.Logic.{_⊎_, inl, inr}
 use native.Mathlib.Omega.{arith}
-use borrow.Author.Tests.{eq-eqb, eqb-true, eqb-false, lt-ltb, le-ltb}
+use borrow.Author.Tests.{eqb-true, eqb-false, lt-ltb, le-ltb}
 use lib.Dec.{eqb, ltb}
 use lib.ListN.{length}
-use Rattle.causality.specs.Event.{History, Of}
+use Rattle.causality.specs.Event.{Of}
 use Rattle.causality.specs.Best as Best
 use Rattle.causality.specs.Meetings as Events
 use Rattle.causality.specs.Meetings.{Joins}
@@ -20,8 +20,8 @@ use Rattle.image.specs.Encode.{Table, encode, tableOf}
 use Rattle.image.proofs.Accepted.{Accepted}
 use Rattle.merge.specs.Label.{newLabel}
 use Rattle.merge.specs.Merged.{merged, verdictBytes}
-use Rattle.merge.specs.Verdict.{verdict, undecided}
-use Rattle.merge.specs.Call.{MeetingOutcome, refusedMeeting, acceptedMeeting, metTogether, meetingCall}
+use Rattle.merge.specs.Verdict.{undecided}
+use Rattle.merge.specs.Call.{MeetingOutcome, refusedMeeting, acceptedMeeting, metTogether}
 use Rattle.merge.proofs.Pairs.{each-agree}
 use Rattle.merge.proofs.NewLabel.{newLabel-limit}
 use Rattle.merge.proofs.AfterLaws.{meeting-short, meeting-called, meeting-accepted}
@@ -37,7 +37,7 @@ use Rattle.parlour.proofs.Merging.{meeting-label, meeting-says}
 use Rattle.parlour.proofs.Images.{table-says, says-agree, says-apart}
 use Rattle.parlour.proofs.Histories.{joins-meeting, events-agree, events-next, yields-agree, yields-next, joins-next}
 use Rattle.parlour.proofs.Kept.{Kept, is-after, kept-says, kept-current, kept-same}
-use Rattle.parlour.proofs.Milkings.{put-same, put-each}
+use Rattle.parlour.proofs.Put.{put-same, put-each}
 
 -- one byte a stall, as a list of the stalls
 pub each-map : (n : ℕ) (f : ℕ → ℕ) → each n (λ r. f r ∷ []) ≡ map f (Best.upTo n)

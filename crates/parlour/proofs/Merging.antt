@@ -4,11 +4,10 @@ use mathlib.Core.Path.{_≡_, refl, sym, ap, ap₂, subst, _∙_}
 use mathlib.Core.Bool.{Bool, true, false, _&&_, _||_, not, cond, true≢false, false≢true}
 use mathlib.Core.Logic.{_⊎_, inl, inr}
 use native.Mathlib.Omega.{arith}
-use native.Mathlib.Decide.{decLt}
-use borrow.Author.Tests.{eq-eqb, ne-eqb, eqb-true, eqb-false}
+use borrow.Author.Tests.{eq-eqb, ne-eqb, eqb-true}
 use lib.Dec.{T, eqb}
 use Rattle.causality.specs.Event.{History, Of}
-use Rattle.causality.specs.Past.{Past, last}
+use Rattle.causality.specs.Past.{Past}
 use Rattle.causality.specs.Clock.{latest, latestIn, inPast}
 use Rattle.causality.specs.Best.{newer, best}
 use Rattle.causality.specs.Meetings.{meeting, Joins}
@@ -22,7 +21,7 @@ use Rattle.labels.specs.Name.{partnerOf}
 use Rattle.labels.proofs.Pairs.{partner-first, partner-second}
 use Rattle.image.specs.Encode.{Table}
 use Rattle.image.specs.declared.Name.{Name}
-use Rattle.image.specs.declared.Name.the-variants.{Never, With}
+use Rattle.image.specs.declared.Name.the-variants.{With}
 use Rattle.merge.specs.Known.{isNever}
 use Rattle.merge.specs.Verdict.{verdict}
 use Rattle.merge.specs.Label.{newLabel}

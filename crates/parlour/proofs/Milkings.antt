@@ -1,13 +1,11 @@
 -- A milking of a list.
 use Prim.Native.Nat.{ℕ, _≤_, _<_}
 use mathlib.Core.Path.{_≡_, refl, sym, ap, subst, _∙_}
-use mathlib.Core.Bool.{Bool, true, false, cond, true≢false}
+use mathlib.Core.Bool.{Bool, true, false, cond}
 use mathlib.Core.List.{List, [], _∷_}
 use native.Mathlib.Omega.{arith}
-use native.Mathlib.Decide.{ℕ-discrete}
-use borrow.Author.Tests.{eq-eqb, ne-eqb, eqb-true, eqb-false, leb-true, leb-false}
+use borrow.Author.Tests.{eq-eqb, ne-eqb, leb-true, leb-false}
 use lib.Dec.{eqb, leb}
-use lib.ListN.{set}
 use Rattle.image.specs.Layout.{yieldLimit}
 use Rattle.image.specs.Encode.{Table, encode}
 use Rattle.image.proofs.Accepted.{Accepted, checked-accepted}
@@ -20,24 +18,8 @@ use Rattle.parlour.specs.Table.{tableAt, tableAfter, imageAfter}
 use Rattle.parlour.specs.Call.{MilkingCall}
 use Rattle.parlour.specs.Run.{Images, put, Called}
 use Rattle.parlour.specs.Claim.{refusal, isAccepted, bufferOf, CallClaim}
+use Rattle.parlour.proofs.Put.{put-same, put-each}
 use Rattle.parlour.proofs.Kept.{Kept, kept-same}
-
--- an image put in its own place changes nothing, and any image only its own place
-pub put-same : (images : Images) (stall p : ℕ) {image : List ℕ} → image ≡ images stall → put images stall image p ≡ images p
-unfolding put
-put-same images stall p {image} e = go (eqb p stall) refl
-  where
-    go : (t : Bool) → eqb p stall ≡ t → cond t image (images p) ≡ images p
-    go true f = e ∙ ap images (sym (eqb-true p stall f))
-    go false f = refl
-
-pub put-each : (P : ℕ → List ℕ → Type 0) (images : Images) (stall p : ℕ) {image : List ℕ} → P stall image → ((p ≡ stall → ⊥) → P p (images p)) → P p (put images stall image p)
-unfolding put
-put-each P images stall p {image} x f = go (eqb p stall) refl
-  where
-    go : (t : Bool) → eqb p stall ≡ t → P p (cond t image (images p))
-    go true e = subst (λ r. P r image) (sym (eqb-true p stall e)) x
-    go false e = f (eqb-false p stall e)
 
 -- the image with another current yield
 current-set : (n p : ℕ) (t : Table) (y : ℕ) → withCurrent (encode n p t) y ≡ encode n p (record { current = y; names = t .names; yields = t .yields; order = t .order })

@@ -1,18 +1,17 @@
 -- What the names of a history tell: whether there is a meeting, which one, and whether it is one of a pair with a label.
-use Prim.Native.Nat.{ℕ, zero, suc, _≤_, _<_}
-use mathlib.Core.Path.{_≡_, refl, sym, subst, _∙_}
+use Prim.Native.Nat.{ℕ, zero, suc, _<_}
+use mathlib.Core.Path.{_≡_, refl, sym, subst}
 use mathlib.Core.Bool.{Bool, true, false, _&&_, _||_, false≢true}
 use mathlib.Core.Logic.{_↔_, _⊎_, inl, inr}
 use native.Mathlib.Omega.{arith}
 use borrow.Author.Tests.{eq-eqb, ne-eqb, eqb-true}
 use lib.Dec.{eqb}
-use Rattle.causality.specs.Event.{History, Of}
+use Rattle.causality.specs.Event.{History}
 use Rattle.causality.specs.Clock.{latest}
 use Rattle.causality.specs.Meetings.{Joins}
 use Rattle.labels.specs.Label.{label}
 use Rattle.labels.specs.Name.{partnerOf, nameOf, SamePair, in-order, exchanged, SameName}
 use Rattle.labels.proofs.Unique.{names-agree}
-use Rattle.image.specs.declared.Name.{Name}
 use Rattle.image.proofs.Passing.{and-holds}
 use Rattle.merge.specs.Known.{isNever, sameMeeting}
 use Rattle.merge.specs.Verdict.{sameName}

@@ -1,7 +1,7 @@
 -- For two tables of one history the label that no row has is the label of the history.
-use Prim.Native.Nat.{ℕ, zero, suc, _≤_, _<_}
+use Prim.Native.Nat.{ℕ, zero, suc, _≤_}
 use mathlib.Core.Path.{_≡_, refl, sym, ap, subst, _∙_}
-use mathlib.Core.Bool.{Bool, true, false, _||_, true≢false}
+use mathlib.Core.Bool.{Bool, true, _||_, true≢false}
 use mathlib.Core.Logic.{_⊎_, inl, inr}
 use native.Mathlib.Omega.{arith}
 use native.Mathlib.Decide.{decLt}
@@ -9,14 +9,13 @@ use lib.Dec.{T}
 use Rattle.causality.specs.Event.{History, Of}
 use Rattle.causality.specs.Clock.{latest, latestIn}
 use Rattle.causality.specs.Meetings.{Joins}
-use Rattle.causality.proofs.Events.{of-pos, of-first, of-second}
+use Rattle.causality.proofs.Events.{of-first, of-second}
 use Rattle.causality.proofs.Clocks.{latest-self, latestIn-of}
 use Rattle.labels.specs.Label.{between, label}
 use Rattle.labels.specs.Name.{partnerOf, SamePair, in-order, exchanged}
 use Rattle.labels.specs.Theory.{Names, primary, secondary, Taken}
-use Rattle.labels.proofs.Pairs.{pair-sym, pair-trans, pair-of-test, between-of, partner-pair, pair-between, partner-first, partner-second}
+use Rattle.labels.proofs.Pairs.{pair-trans, pair-of-test, partner-pair, pair-between, partner-first, partner-second}
 use Rattle.labels.proofs.Rule.{label-free, label-lowest}
-use Rattle.image.specs.Stalls.{some}
 use Rattle.image.specs.Encode.{Table}
 use Rattle.merge.specs.Label.{isMeeting, rowHas, labelUsed, newLabel}
 use Rattle.merge.proofs.NewLabel.{newLabel-lowest, newLabel-free}

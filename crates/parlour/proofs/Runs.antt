@@ -2,15 +2,14 @@
 use Prim.Native.Nat.{ℕ, zero, suc, _+_, _-_, _*_, _≤_, _<_}
 use mathlib.Core.Path.{_≡_, refl, sym, ap, ap₂, subst, subst₂, _∙_}
 use mathlib.Core.Logic.{_↔_}
-use mathlib.Core.Bool.{Bool, true, false, cond}
+use mathlib.Core.Bool.{cond}
 use mathlib.Core.List.{List, [], _∷_, _++_, map, append-assoc}
 use native.Mathlib.Omega.{arith}
 use lib.ListN.{length, getD}
-use Rattle.causality.specs.Event.{History}
 use Rattle.causality.specs.Clock.{latest}
 use Rattle.causality.specs.Best as Best
 use Rattle.causality.specs.Best.{best}
-use Rattle.causality.specs.GoodPath.{BestByPath, winner}
+use Rattle.causality.specs.GoodPath.{winner}
 use Rattle.causality.proofs.Newer.{newer-in}
 use Rattle.causality.proofs.GoodPaths.{path-best}
 use Rattle.labels.specs.Label.{label}
@@ -21,13 +20,12 @@ use Rattle.image.specs.Layout.{nameAt}
 use Rattle.image.specs.Encode.{tableOf}
 use Rattle.image.proofs.Has.{has-self, has-first, length-each, has-each}
 use Rattle.image.specs.declared.Meet.{Meet}
-use Rattle.image.specs.declared.Name.{Name}
-use Rattle.image.specs.declared.Name.the-variants.{Never, With}
-use Rattle.parlour.specs.Item.{Item, meeting, counts, history}
+use Rattle.image.specs.declared.Name.the-variants.{With}
+use Rattle.parlour.specs.Item.{Item, history}
 use Rattle.parlour.specs.History.{meetings, events}
 use Rattle.parlour.specs.Table.{nameIn}
 use Rattle.parlour.specs.Run.{Images, Called, Run, start, milk, meet}
-use Rattle.parlour.specs.Claim.{isAccepted, CallClaim, CallOf, items, read, Claim}
+use Rattle.parlour.specs.Claim.{CallClaim, items, read, Claim}
 use Rattle.parlour.specs.Verdict.{acceptedItems, BestVerdicts, VerdictsAreBest}
 use Rattle.parlour.proofs.Says.{own-names}
 use Rattle.parlour.proofs.Kept.{Kept, fresh-kept, kept-says}

@@ -1,13 +1,12 @@
 -- For two tables of one history the verdict by what is known is best, and it is never 9.
-use Prim.Native.Nat.{ℕ, suc, _≤_, _<_}
+use Prim.Native.Nat.{ℕ, _≤_, _<_}
 use mathlib.Core.Path.{_≡_, refl, sym, ap, subst, _∙_}
-use mathlib.Core.Bool.{Bool, true, false, _&&_, _||_, true≢false}
-use mathlib.Core.Logic.{_↔_, _⊎_, inl, inr}
+use mathlib.Core.Bool.{Bool, true, false, _&&_, true≢false}
+use mathlib.Core.Logic.{_↔_, inl, inr}
 use native.Mathlib.Omega.{arith}
 use borrow.Author.Tests.{eq-eqb, ne-eqb, eqb-true}
 use lib.Dec.{T, eqb}
 use Rattle.causality.specs.Event.{History}
-use Rattle.causality.specs.Past.{Past}
 use Rattle.causality.specs.Clock.{latest, inPast}
 use Rattle.causality.specs.Best.{best}
 use Rattle.causality.specs.Known.{Known, none-heard, common}
@@ -24,7 +23,7 @@ use Rattle.image.proofs.Bits.{Found, at, nowhere, some-found}
 use Rattle.image.proofs.Passing.{and-holds, some-fails}
 use Rattle.merge.specs.Known as Rule
 use Rattle.merge.specs.Verdict.{sameName, judge, verdict, undecided}
-use Rattle.merge.proofs.Agreeing.{Agree, known-agree}
+use Rattle.merge.proofs.Agreeing.{known-agree}
 use Rattle.parlour.specs.Table.{nameIn}
 use Rattle.parlour.proofs.Names.{or-holds, never-is, same-self, same-place}
 use Rattle.parlour.proofs.Says.{Says, own-names}

@@ -1,7 +1,6 @@
 -- Document 01's lists, by evaluation of what a history says.
-use Prim.Native.Nat.{ℕ, zero, suc}
 use mathlib.Core.Path.{_≡_, refl}
-use mathlib.Core.List.{List, [], _∷_, _++_, map, flatMap}
+use mathlib.Core.List.{List, [], _∷_, flatMap}
 use lib.ListN.{replicate}
 use Rattle.causality.specs.Event.{takesPart}
 use Rattle.causality.specs.Past.{last, newest}

@@ -3,7 +3,7 @@ use Prim.Native.Nat.{ℕ, suc}
 use mathlib.Core.Bool.{cond}
 use mathlib.Core.List.{List, [], _∷_}
 use lib.Dec.{eqb}
-use Rattle.causality.specs.Event.{Event, History}
+use Rattle.causality.specs.Event.{History}
 use Rattle.causality.specs.Meetings as Meetings
 use Rattle.image.specs.Layout.{noYield}
 use Rattle.parlour.specs.Item.{Item, milking, meeting}

@@ -8,7 +8,6 @@ use Rattle.causality.specs.Clock.{latest, latestIn, inPast}
 use Rattle.labels.specs.Label.{label}
 use Rattle.labels.specs.Name.{partnerOf}
 use Rattle.image.specs.Encode.{Table, encode}
-use Rattle.image.specs.declared.Meet.{Meet}
 use Rattle.image.specs.declared.Name.{Name}
 use Rattle.image.specs.declared.Name.the-variants.{Never, With}
 use Rattle.parlour.specs.Item.{Item}
