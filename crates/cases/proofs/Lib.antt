@@ -1,0 +1,2 @@
+-- The proof over the table.
+pub mod Theory

@@ -1,0 +1,59 @@
+-- What a case of document 01's "Meetings to try" does, and what comes of it, by the definitions that the contracts of the calls equal.
+use Prim.Native.Nat.{ℕ, zero, suc}
+use mathlib.Core.Bool.{cond}
+use mathlib.Core.List.{List, [], _∷_, _++_}
+use lib.Dec.{eqb}
+use lib.ListN.{getD, set, replicate}
+use Rattle.image.specs.Stalls.{each}
+use Rattle.image.specs.Fresh.{freshImage}
+use Rattle.image.specs.Check.{checked, numberOf}
+use Rattle.head.specs.Calls.{milkingCall}
+use Rattle.merge.specs.Call.{MeetingOutcome, meetingCall}
+
+pub data Given : Type 0 where
+  -- meetings in turn in a fresh parlour of n heads, for their labels
+  labels : (n : ℕ) (meetings : List (ℕ × ℕ)) → Given
+  -- meetings in turn, for the verdicts of one more
+  verdicts : (n : ℕ) (meetings : List (ℕ × ℕ)) (p q : ℕ) → Given
+  -- the first meeting of a fresh parlour of n heads, for the verdicts: of every two heads, either first
+  firsts : (n : ℕ) → Given
+  -- a meeting of two images, for its answer
+  together : (first second : List ℕ) → Given
+  -- a milking of a fresh head, for its answer
+  milked : (yield : ℕ) → Given
+  -- the check of an image, for its number
+  number : (image : List ℕ) → Given
+
+-- the images of a parlour, stall 1 at place 1
+abbrev pub imageOf : List (List ℕ) → ℕ → List ℕ
+imageOf images r = getD images r []
+
+unfoldable pub freshTo : ℕ → ℕ → List (List ℕ)
+freshTo zero n = [] ∷ []
+freshTo (suc r) n = freshTo r n ++ (freshImage n (suc r) ∷ [])
+
+abbrev pub fresh : ℕ → List (List ℕ)
+fresh n = freshTo n n
+
+-- a meeting, and the images after it
+abbrev pub call : ℕ → List (List ℕ) → ℕ → ℕ → MeetingOutcome
+call n images p q = meetingCall (imageOf images p) (imageOf images q) (replicate n 0)
+
+abbrev pub after : List (List ℕ) → ℕ → ℕ → MeetingOutcome → List (List ℕ)
+after images p q o = set (set images p (o .first)) q (o .second)
+
+unfoldable pub labelsOf : ℕ → List (List ℕ) → List (ℕ × ℕ) → List ℕ
+labelsOf n images [] = []
+labelsOf n images (m ∷ l) = let o = call n images (m .0) (m .1) in o .answer ∷ labelsOf n (after images (m .0) (m .1) o) l
+
+unfoldable pub afterAll : ℕ → List (List ℕ) → List (ℕ × ℕ) → List (List ℕ)
+afterAll n images [] = images
+afterAll n images (m ∷ l) = afterAll n (after images (m .0) (m .1) (call n images (m .0) (m .1))) l
+
+unfoldable pub outcome : Given → List ℕ
+outcome (labels n meetings) = labelsOf n (fresh n) meetings
+outcome (verdicts n meetings p q) = call n (afterAll n (fresh n) meetings) p q .verdicts
+outcome (firsts n) = each n (λ p. each n (λ q. cond (eqb p q) [] (call n (fresh n) p q .verdicts)))
+outcome (together first second) = meetingCall first second (replicate (getD first 0 0) 0) .answer ∷ []
+outcome (milked yield) = milkingCall (freshImage 2 1) yield .answer ∷ []
+outcome (number image) = numberOf (checked image) ∷ []

@@ -1,0 +1,52 @@
+-- The cases of document 01's "Meetings to try" that are marked P.
+use Prim.Native.Nat.{ℕ, _+_, _*_}
+use mathlib.Core.List.{List, [], _∷_, _++_}
+use lib.ListN.{replicate}
+use Rattle.cases.specs.Case.{Given, labels, verdicts, firsts, together, milked, number}
+
+pub record Case : Type 0 where
+  pub given : Given
+  pub expected : List ℕ
+
+infix 20 _gives_
+
+abbrev pub _gives_ : Given → List ℕ → Case
+given gives expected = record { given = given; expected = expected }
+
+-- document 003's example 2.4
+abbrev pub example-2-4 : List (ℕ × ℕ)
+example-2-4 = (1, 2) ∷ (1, 3) ∷ (1, 4) ∷ (4, 5) ∷ (2, 5) ∷ (2, 4) ∷ []
+
+-- an image of 3 stalls, of which 1 and 2 have met with this label
+abbrev pub withLabel : ℕ → List ℕ
+withLabel k = (3 ∷ 1 ∷ 0 ∷ 0 ∷ []) ++ (2 ∷ k ∷ 1 ∷ k ∷ 0 ∷ 0 ∷ []) ++ (2 ∷ k ∷ 1 ∷ k ∷ 0 ∷ 0 ∷ []) ++ replicate 12 0 ++ (3 ∷ 3 ∷ 0 ∷ [])
+
+unfoldable pub table : List Case
+table =
+    -- "N=2, meeting 1-2 four times: labels 0, 1, 0, 1."
+    (labels 2 ((1, 2) ∷ (1, 2) ∷ (1, 2) ∷ (1, 2) ∷ []) gives (0 ∷ 1 ∷ 0 ∷ 1 ∷ []))
+    -- "N=3, 1-2, 1-3, 1-2, 1-2, 1-2: labels 0, 0, 1, 2, 1."
+    ∷ (labels 3 ((1, 2) ∷ (1, 3) ∷ (1, 2) ∷ (1, 2) ∷ (1, 2) ∷ []) gives (0 ∷ 0 ∷ 1 ∷ 2 ∷ 1 ∷ []))
+    -- "a first meeting: verdicts all 0."
+    ∷ (firsts 2 gives replicate (2 * (1 * 2)) 0)
+    ∷ (firsts 3 gives replicate (3 * (2 * 3)) 0)
+    ∷ (firsts 4 gives replicate (4 * (3 * 4)) 0)
+    ∷ (firsts 5 gives replicate (5 * (4 * 5)) 0)
+    ∷ (firsts 6 gives replicate (6 * (5 * 6)) 0)
+    ∷ (firsts 7 gives replicate (7 * (6 * 7)) 0)
+    ∷ (firsts 8 gives replicate (8 * (7 * 8)) 0)
+    -- "document 003's example 2.4 .., then 3-5: 2, 2, 0, 2, 2." and "instead 1-2: 0, 2, 0, 2, 2."
+    ∷ (verdicts 5 example-2-4 3 5 gives (2 ∷ 2 ∷ 0 ∷ 2 ∷ 2 ∷ []))
+    ∷ (verdicts 5 example-2-4 1 2 gives (0 ∷ 2 ∷ 0 ∷ 2 ∷ 2 ∷ []))
+    -- "N=4, 1-2, 1-3, 2-4, then 3-4: 1, 2, 1, 2."
+    ∷ (verdicts 4 ((1, 2) ∷ (1, 3) ∷ (2, 4) ∷ []) 3 4 gives (1 ∷ 2 ∷ 1 ∷ 2 ∷ []))
+    -- "both images of row 9"
+    ∷ (together (2 ∷ 1 ∷ 0 ∷ 0 ∷ 2 ∷ 0 ∷ 1 ∷ 0 ∷ 2 ∷ 0 ∷ 1 ∷ 0 ∷ 0 ∷ 0 ∷ 0 ∷ 0 ∷ 3 ∷ 3 ∷ []) (2 ∷ 2 ∷ 0 ∷ 0 ∷ 2 ∷ 1 ∷ 1 ∷ 1 ∷ 2 ∷ 1 ∷ 1 ∷ 1 ∷ 0 ∷ 0 ∷ 0 ∷ 0 ∷ 3 ∷ 3 ∷ [])
+    gives ((256 + 9) ∷ []))
+    -- "yield 999 taken, 1000 is 4."
+    ∷ (milked 999 gives (0 ∷ []))
+    ∷ (milked 1000 gives (4 ∷ []))
+    -- "N=3, label 12 passes check 5 on range, 13 does not."
+    ∷ (number (withLabel 12) gives (0 ∷ []))
+    ∷ (number (withLabel 13) gives (5 ∷ []))
+    ∷ []
