@@ -1,4 +1,5 @@
 -- The lemmas of `merge`. What crates above cite is `pub mod`.
+pub mod ByStalls
 pub mod Commons
 pub mod Agreeing
 pub mod Judging
