@@ -11,7 +11,7 @@ pub mod LabelRows
 pub mod Counting
 pub mod NewLabel
 pub mod Copies
-pub mod Pairs
+pub mod PairRows
 pub mod Mixing
 pub mod BodyRows
 pub mod Written

@@ -9,8 +9,8 @@ use Rattle.image.specs.Stalls.{each, bits}
 use Rattle.image.specs.Encode.{tableOf}
 use Rattle.image.specs.Layout.{rowPlace, yieldPlace}
 use Rattle.merge.specs.Merged.{mergedOrder}
-use Rattle.merge.specs.declared.rows.Pair.{Pair}
-use Rattle.merge.specs.declared.rows.Side.{Side}
+use Rattle.merge.specs.declared.pairs.Pair.{Pair}
+use Rattle.merge.specs.declared.pairs.Side.{Side}
 
 -- the image that stall r comes from, and the stall of its head
 abbrev pub sourceOf : List ℕ → List ℕ → (ℕ → ℕ) → ℕ → List ℕ

@@ -3,6 +3,7 @@ pub mod known;
 pub mod label;
 pub mod meeting;
 pub mod orders;
+pub mod pairs;
 pub mod rows;
 pub mod write;
 pub mod yields;
