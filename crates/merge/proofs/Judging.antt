@@ -10,13 +10,13 @@ use lib.ListN.{getD}
 use Rattle.image.specs.Stalls.{bits, has}
 use Rattle.image.specs.Layout.{orderPlace, orderAt, nameAt, markAt}
 use Rattle.image.specs.Frame.{Framed}
-use Rattle.image.specs.Row.{neverAt, ownRow}
+use Rattle.image.specs.Row.{isNever, neverAt, ownRow}
 use Rattle.image.specs.Encode.{Table, tableOf}
 use Rattle.image.specs.declared.Name.{Name}
 use Rattle.image.specs.declared.Entry.{Entry}
 use Rattle.image.proofs.Bits.{common-test}
 use Rattle.image.proofs.OwnRow.{own-row-name}
-use Rattle.merge.specs.Known.{isNever, common, known}
+use Rattle.merge.specs.Known.{common, known}
 use Rattle.merge.specs.Verdict.{sameName, judge, verdict}
 use Rattle.merge.specs.Rows.{nameIn}
 use Rattle.merge.proofs.Agreeing.{known-agree}

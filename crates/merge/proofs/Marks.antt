@@ -9,6 +9,7 @@ use lib.Dec.{eqb, leb}
 use lib.Pow.{pow-pos}
 use Rattle.image.specs.Stalls.{bits, has}
 use Rattle.image.specs.Encode.{Table}
+use Rattle.image.specs.Row.{isNever}
 use Rattle.image.proofs.Bits.{has-ext, has-and, has-or, has-zero, has-bits, bits-lt}
 use Rattle.image.proofs.Encoding.{bits-agree}
 use Rattle.image.specs.declared.Meet.{Meet}
@@ -16,7 +17,6 @@ use Rattle.image.specs.declared.Name.{Name}
 use Rattle.image.specs.declared.Name.the-variants.{Never, With}
 use Rattle.merge.specs.Label.{newLabel}
 use Rattle.merge.specs.declared.Sets.{Sets}
-use Rattle.merge.specs.Known.{isNever}
 use Rattle.merge.specs.Verdict.{verdict}
 use Rattle.merge.specs.Merged.{supplier, supplierStall, latestName, mergedOrder}
 use Rattle.merge.specs.Orders.{isMet, Sorted, orderOf, heardFrom}

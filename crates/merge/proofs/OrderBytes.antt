@@ -10,13 +10,12 @@ use lib.Pow.{pow-mono}
 use Rattle.image.specs.Stalls.{bits, has}
 use Rattle.image.specs.Layout.{largest, orderPlace, orderAt, nameAt, markAt}
 use Rattle.image.specs.Frame.{Framed}
-use Rattle.image.specs.Row.{neverAt, ownRow}
+use Rattle.image.specs.Row.{isNever, neverAt, ownRow}
 use Rattle.image.specs.Encode.{Table, tableOf}
 use Rattle.image.specs.declared.Entry.{Entry}
 use Rattle.image.proofs.Bits.{bits-lt}
 use Rattle.image.proofs.OwnRow.{own-row-name}
 use Rattle.merge.specs.declared.Sets.{Sets}
-use Rattle.merge.specs.Known.{isNever}
 use Rattle.merge.specs.Verdict.{verdict}
 use Rattle.merge.specs.Rows.{nameIn}
 use Rattle.merge.specs.Judged.{byteOf, Judged}

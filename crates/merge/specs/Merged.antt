@@ -9,10 +9,10 @@ use mathlib.Core.List.{List, [], _∷_}
 use lib.Dec.{eqb}
 use Rattle.image.specs.Stalls.{each}
 use Rattle.image.specs.Encode.{Table}
+use Rattle.image.specs.Row.{isNever}
 use Rattle.image.specs.declared.Meet.{Meet}
 use Rattle.image.specs.declared.Name.{Name}
 use Rattle.image.specs.declared.Name.the-variants.{With}
-use Rattle.merge.specs.Known.{isNever}
 use Rattle.merge.specs.Verdict.{verdict}
 use Rattle.merge.specs.Label.{newLabel}
 

@@ -8,8 +8,8 @@ use mathlib.Core.List.{List}
 use lib.Dec.{eqb}
 use Rattle.image.specs.Stalls.{bits}
 use Rattle.image.specs.Encode.{tableOf}
+use Rattle.image.specs.Row.{isNever}
 use Rattle.image.specs.declared.Name.{Name}
-use Rattle.merge.specs.Known.{isNever}
 use Rattle.merge.specs.Merged.{mergedOrder}
 use Rattle.merge.specs.ByStall.{ByStall}
 use Rattle.merge.specs.declared.Sets.{Sets}
