@@ -1,18 +1,18 @@
 -- A fresh table, by the tests in their order.
-use Prim.Native.Nat.{ℕ, zero, suc, _+_, _-_, _*_, _≤_, _<_}
+use Prim.Native.Nat.{ℕ, zero, suc, _-_, _≤_}
 use mathlib.Core.Path.{_≡_, refl, sym, ap, _∙_}
-use mathlib.Core.Bool.{Bool, true, false, _&&_, not}
-use mathlib.Core.List.{List, [], _∷_}
+use mathlib.Core.Bool.{true, false, _&&_, not}
+use mathlib.Core.List.{List, _∷_}
 use native.Mathlib.Omega.{arith}
 use native.Mathlib.Nat.{mul-le-mul}
 use borrow.Author.Tests.{eq-eqb, ne-eqb, le-leb}
-use lib.Dec.{leb, eqb}
+use lib.Dec.{leb}
 use lib.ListN.{length, take, replicate}
 use Rattle.image.specs.Layout.{largest, lengthOf}
 use Rattle.image.specs.Fresh.{freshImage}
 use Rattle.image.specs.Check.{badStall}
 use Rattle.image.proofs.Stages.{in-range}
-use Rattle.head.specs.Calls.{Outcome, refused, accepted, freshCall}
+use Rattle.head.specs.Calls.{refused, accepted, freshCall}
 
 take-replicate : (k m z : ℕ) → k ≤ m → take k (replicate m z) ≡ replicate k z
 take-replicate zero m z l = refl

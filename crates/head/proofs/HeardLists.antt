@@ -8,13 +8,11 @@ use native.Mathlib.Nat.{zero-add, add-zero}
 use native.Mathlib.Decide.{decLe, ℕ-discrete}
 use borrow.Author.Tests.{le-leb, lt-leb, eq-eqb, ne-eqb}
 use lib.Dec.{leb, eqb}
-use lib.ListN.{length, take, drop, getD, replicate, length-append}
+use lib.ListN.{length, take, drop, replicate, length-append}
 use lib.Seq.{take-at}
-use Rattle.image.specs.Layout.{yieldPlace, partnerAt, labelAt, nameFrom, nameAt, heardAt}
+use Rattle.image.specs.Layout.{partnerAt, labelAt, nameFrom, nameAt, heardAt}
 use Rattle.image.specs.Frame.{Framed}
-use Rattle.image.specs.Row.{isNever, neverAt, ownRow}
-use Rattle.image.specs.declared.Meet.{Meet}
-use Rattle.image.specs.declared.Name.{Name}
+use Rattle.image.specs.Row.{isNever, ownRow}
 use Rattle.image.specs.declared.Name.the-variants.{Never, With}
 use Rattle.image.specs.declared.Entry.{Entry}
 use Rattle.image.proofs.OwnRow.{own-row-name}

@@ -1,8 +1,8 @@
 -- The verdicts that the code finds by masks are those of the tables.
-use Prim.Native.Nat.{ℕ, zero, suc, _+_, _-_, _*_, _≤_, _<_}
+use Prim.Native.Nat.{ℕ, suc, _+_, _-_, _≤_, _<_}
 use mathlib.Core.Path.{_≡_, ap, subst, _∙_}
-use mathlib.Core.Bool.{Bool, _||_, not}
-use mathlib.Core.List.{List, []}
+use mathlib.Core.Bool.{_||_, not}
+use mathlib.Core.List.{List}
 use native.Mathlib.Omega.{arith}
 use lib.Bits.{bitAnd}
 use lib.Dec.{eqb}
@@ -11,8 +11,7 @@ use Rattle.image.specs.Stalls.{bits, has}
 use Rattle.image.specs.Layout.{orderPlace, orderAt, nameAt, markAt}
 use Rattle.image.specs.Frame.{Framed}
 use Rattle.image.specs.Row.{isNever, neverAt, ownRow}
-use Rattle.image.specs.Encode.{Table, tableOf}
-use Rattle.image.specs.declared.Name.{Name}
+use Rattle.image.specs.Encode.{tableOf}
 use Rattle.image.specs.declared.Entry.{Entry}
 use Rattle.image.proofs.Bits.{common-test}
 use Rattle.image.proofs.OwnRow.{own-row-name}

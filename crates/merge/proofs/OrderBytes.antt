@@ -1,25 +1,23 @@
 -- The order bytes that the code puts together from sets are those of the tables.
-use Prim.Native.Nat.{ℕ, suc, _+_, _-_, _*_, _%_, _^_, _≤_, _<_}
+use Prim.Native.Nat.{ℕ, suc, _+_, _-_, _%_, _≤_, _<_}
 use mathlib.Core.Path.{_≡_, refl, ap, ap₂, _∙_}
-use mathlib.Core.Bool.{Bool, true, false, _&&_, _||_, not, cond}
+use mathlib.Core.Bool.{Bool, true, false, cond}
 use mathlib.Core.List.{List}
 use native.Mathlib.Omega.{arith}
-use lib.Dec.{eqb}
 use lib.ListN.{getD}
 use lib.Pow.{pow-mono}
 use Rattle.image.specs.Stalls.{bits, has}
-use Rattle.image.specs.Layout.{largest, orderPlace, orderAt, nameAt, markAt}
+use Rattle.image.specs.Layout.{largest, orderPlace, orderAt, markAt}
 use Rattle.image.specs.Frame.{Framed}
-use Rattle.image.specs.Row.{isNever, neverAt, ownRow}
-use Rattle.image.specs.Encode.{Table, tableOf}
+use Rattle.image.specs.Row.{neverAt, ownRow}
+use Rattle.image.specs.Encode.{tableOf}
 use Rattle.image.specs.declared.Entry.{Entry}
 use Rattle.image.proofs.Bits.{bits-lt}
-use Rattle.image.proofs.OwnRow.{own-row-name}
 use Rattle.merge.specs.declared.Sets.{Sets}
 use Rattle.merge.specs.Verdict.{verdict}
 use Rattle.merge.specs.Rows.{nameIn}
 use Rattle.merge.specs.Judged.{byteOf, Judged}
-use Rattle.merge.specs.Merged.{latestName, mergedOrder}
+use Rattle.merge.specs.Merged.{mergedOrder}
 use Rattle.merge.specs.Orders.{isMet, Sorted, orderOf, heardFrom}
 use Rattle.merge.proofs.Judging.{mine-name}
 use Rattle.merge.proofs.Marks.{order-byte, met-byte, heard-is}

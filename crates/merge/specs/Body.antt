@@ -1,7 +1,7 @@
 -- What both images hold after a meeting from byte 4 on, said of bytes: for the functions that build and write it. `Merged` says what it means.
 -- s and u are the images of the heads at stalls p and q, v gives the verdict on each stall, and k is the label.
 use Prim.Native.Nat.{ℕ, _+_, _-_, _*_}
-use mathlib.Core.Bool.{Bool, _||_, cond}
+use mathlib.Core.Bool.{_||_, cond}
 use mathlib.Core.List.{List, [], _∷_, _++_}
 use lib.Dec.{eqb}
 use lib.ListN.{getD, take, drop, replicate}

@@ -1,10 +1,8 @@
 -- The verdicts on all stalls.
-use Prim.Native.Nat.{ℕ, suc, _+_, _-_, _*_, _≤_, _<_}
-use mathlib.Core.Path.{_≡_, refl, sym, ap, subst, _∙_}
+use Prim.Native.Nat.{_+_, _-_, _≤_}
+use mathlib.Core.Path.{_≡_, refl, subst}
 use native.Mathlib.Omega.{arith}
-use lib.ListN.{length}
 use Rattle.image.specs.Layout.{orderPlace}
-use Rattle.image.proofs.OwnRow.{own-row-long}
 use Rattle.merge.specs.Judged.{Judged}
 use Rattle.merge.proofs.ByStalls.{by-stall-start, by-stall-next}
 use Rattle.merge.proofs.Judging.{verdict-next}

@@ -1,11 +1,9 @@
 -- The order bytes of all stalls.
-use Prim.Native.Nat.{ℕ, suc, _+_, _-_, _*_, _≤_, _<_}
-use mathlib.Core.Path.{_≡_, refl, sym, ap, subst, _∙_}
-use mathlib.Core.Bool.{_||_}
+use Prim.Native.Nat.{_+_, _-_, _≤_}
+use mathlib.Core.Path.{_≡_, refl, subst}
 use native.Mathlib.Omega.{arith}
-use lib.Dec.{eqb}
 use Rattle.image.specs.Layout.{orderPlace}
-use Rattle.merge.specs.Orders.{isMet, Ordered}
+use Rattle.merge.specs.Orders.{Ordered}
 use Rattle.merge.proofs.ByStalls.{by-stall-start, by-stall-next}
 use Rattle.merge.proofs.OrderBytes.{order-next}
 use Rattle.merge.proofs.orders.merged_orders.Statement.{statement}
