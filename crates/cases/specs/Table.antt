@@ -9,7 +9,6 @@ pub record Case : Type 0 where
   pub expected : List ℕ
 
 infix 20 _gives_
-
 abbrev pub _gives_ : Given → List ℕ → Case
 given gives expected = record { given = given; expected = expected }
 

@@ -1,16 +1,14 @@
 -- What comes later changes nothing: histories that agree so far have the same pasts, last events and latests.
-use Prim.Native.Nat.{ℕ, zero, suc, _≤_, _<_}
-use mathlib.Core.Path.{_≡_, refl, sym, ap, subst, _∙_}
-use mathlib.Core.Bool.{Bool, cond}
-use mathlib.Core.List.{List, []}
+use Prim.Native.Nat.{ℕ, zero, suc, _≤_}
+use mathlib.Core.Path.{_≡_, refl, sym, ap, _∙_}
+use mathlib.Core.Bool.{Bool}
+use mathlib.Core.List.{[]}
 use native.Mathlib.Omega.{arith}
 use lib.ListN.{getD}
-use Rattle.causality.specs.Event.{Event, History, Of, takesPart}
-use Rattle.causality.specs.Past.{Link, Past, here, on, newest, last}
+use Rattle.causality.specs.Event.{History, Of, takesPart}
+use Rattle.causality.specs.Past.{Past, here, on, newest, last}
 use Rattle.causality.specs.Clock.{clocks, latest, latestIn}
 use Rattle.causality.specs.Meetings.{Agree}
-use Rattle.causality.proofs.Events.{of-pos}
-use Rattle.causality.proofs.Pasts.{past-le}
 
 pub agree-sym : {h g : History} {n : ℕ} → Agree h g n → Agree g h n
 agree-sym a = record { same = λ k l. sym (a .same k l) }

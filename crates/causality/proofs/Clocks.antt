@@ -8,13 +8,13 @@ use native.Mathlib.Nat.{zero-max, max-zero}
 use native.Mathlib.Decide.{ℕ-discrete, decLe, decLt}
 use lib.Dec.{T, leb, leb→le, le→leb}
 use lib.ListN.{getD}
-use Rattle.causality.specs.Event.{Event, History, Of}
+use Rattle.causality.specs.Event.{History, Of}
 use Rattle.causality.specs.Past.{Past, newest, last, View}
-use Rattle.causality.specs.Latest.{Newest, LatestIn, Latest}
+use Rattle.causality.specs.Latest.{LatestIn, Latest}
 use Rattle.causality.specs.Clock.{put, maxima, joined, clocks, latest, latestIn, inPast}
 use Rattle.causality.specs.Best.{newer, best, bestIn}
 use Rattle.causality.proofs.Newest.{newest-ge, newest-unique, newest-suc-yes, newest-zero}
-use Rattle.causality.proofs.Events.{T-dec, of-pos, of-either, of-first, of-second, of-cases, of-dec}
+use Rattle.causality.proofs.Events.{T-dec, of-either, of-first, of-second, of-cases, of-dec}
 use Rattle.causality.proofs.Pasts.{past-pos, past-le, past-refl, past-trans, comparable, last-le, last-of, last-joined, last-apart, past-suc, view-next}
 
 -- Lists with a default past their end

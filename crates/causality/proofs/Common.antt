@@ -1,16 +1,16 @@
 -- The common event: what lies in two views lies in the past of an event that is a latest of both.
-use Prim.Native.Nat.{ℕ, zero, suc, _≤_, _<_}
+use Prim.Native.Nat.{ℕ, _<_}
 use mathlib.Core.Path.{_≡_, refl, sym, subst}
 use mathlib.Core.Logic.{_⊎_, inl, inr, Dec·and}
 use native.Mathlib.Omega.{arith}
 use native.Mathlib.Decide.{ℕ-discrete, decLe, decLt}
-use Rattle.causality.specs.Event.{Event, History, Of}
+use Rattle.causality.specs.Event.{History, Of}
 use Rattle.causality.specs.Past.{Link, Past, here, on, last, View}
 use Rattle.causality.specs.Clock.{latest}
 use Rattle.causality.specs.Known.{CommonEvent}
 use Rattle.causality.proofs.Newest.{newest-exists, newest-ge}
 use Rattle.causality.proofs.Events.{two}
-use Rattle.causality.proofs.Pasts.{past-pos, past-le, past-refl, past-trans, comparable, last-of, last-ge, view-le}
+use Rattle.causality.proofs.Pasts.{past-pos, past-refl, past-trans, comparable, last-of, last-ge, view-le}
 use Rattle.causality.proofs.Clocks.{latest-le, latest-of, latest-view, latest-ge, past-dec}
 
 -- the first step of a chain

@@ -6,7 +6,7 @@ use mathlib.Core.Logic.{_↔_, _⊎_, inl, inr}
 use native.Mathlib.Omega.{arith}
 use borrow.Author.Tests.{eq-eqb}
 use lib.Dec.{T, eqb, eqb→eq, eqb-refl}
-use Rattle.causality.specs.Event.{Event, History, Of, takesPart}
+use Rattle.causality.specs.Event.{History, Of, takesPart}
 
 pub T-dec : (b : Bool) → Dec (T b)
 T-dec true = yes tt

@@ -1,15 +1,14 @@
 -- Document 003's paths and our chains give the same latest and the same best.
 use Prim.Native.Nat.{ℕ, zero, suc, _≤_, _<_}
 use mathlib.Core.Path.{_≡_, refl, sym, subst, subst₂, _∙_}
-use mathlib.Core.Bool.{cond}
-use mathlib.Core.Logic.{_↔_, _⊎_, inl, inr}
+use mathlib.Core.Logic.{_↔_, inl, inr}
 use native.Mathlib.Omega.{arith}
-use native.Mathlib.Decide.{ℕ-discrete, decLe, decLt}
-use Rattle.causality.specs.Event.{Event, History, Of}
-use Rattle.causality.specs.Past.{Past, here, on, last, View}
+use native.Mathlib.Decide.{decLt}
+use Rattle.causality.specs.Event.{History, Of}
+use Rattle.causality.specs.Past.{Past, here, on, View}
 use Rattle.causality.specs.Clock.{latest}
-use Rattle.causality.specs.Best.{newer, best}
-use Rattle.causality.specs.GoodPath.{Dom, as-named, exchanged, Path, only, pair, source, target, Good, LatestByPath, by-path, otherwise, Winner, agent, star, BestByPath, the-first, the-second, neither, winner}
+use Rattle.causality.specs.Best.{best}
+use Rattle.causality.specs.GoodPath.{Dom, as-named, exchanged, Path, only, pair, source, target, Good, LatestByPath, by-path, otherwise, Winner, BestByPath, the-first, the-second, neither, winner}
 use Rattle.causality.proofs.Newer.{newer-first, newer-second, newer-equal}
 use Rattle.causality.proofs.Events.{of-pos, of-first, of-second, of-cases}
 use Rattle.causality.proofs.Pasts.{past-pos, past-le, past-refl, past-trans, comparable, last-le, last-of, view-own}

@@ -4,15 +4,15 @@ use mathlib.Core.Path.{_≡_, refl, sym, subst, _∙_}
 use mathlib.Core.Logic.{_↔_, _⊎_, inl, inr}
 use native.Mathlib.Omega.{arith}
 use native.Mathlib.Decide.{ℕ-discrete, decLe, decLt}
-use Rattle.causality.specs.Event.{Event, History, Of}
-use Rattle.causality.specs.Past.{Past, last, View}
+use Rattle.causality.specs.Event.{History, Of}
+use Rattle.causality.specs.Past.{Past, View}
 use Rattle.causality.specs.Clock.{latest, latestIn}
 use Rattle.causality.specs.Best.{best}
-use Rattle.causality.specs.Known.{Order, Known, none-heard, common, CommonEvent}
+use Rattle.causality.specs.Known.{Known, none-heard, common}
 use Rattle.causality.proofs.Newer.{newer-first, newer-second, newer-equal}
-use Rattle.causality.proofs.Events.{of-pos, of-dec}
-use Rattle.causality.proofs.Pasts.{past-pos, past-le, past-refl, past-trans, comparable, last-of, last-ge, view-own}
-use Rattle.causality.proofs.Clocks.{latest-le, latest-of, latest-view, latest-ge, latest-apart, latest-own, latest-max, latestIn-le, latestIn-of, latestIn-past, latestIn-ge}
+use Rattle.causality.proofs.Events.{of-dec}
+use Rattle.causality.proofs.Pasts.{past-pos, past-le, past-refl, past-trans, comparable, view-own}
+use Rattle.causality.proofs.Clocks.{latest-le, latest-of, latest-view, latest-ge, latest-apart, latest-own, latest-max, latestIn-of, latestIn-past, latestIn-ge}
 use Rattle.causality.proofs.Common.{common-event}
 
 module _ (h : History) (n p q r : ℕ) where

@@ -1,9 +1,8 @@
 -- For messages that go one way the past is document 004's order of events.
-use Prim.Native.Nat.{ℕ, zero, suc, _+_, _≤_, _<_}
+use Prim.Native.Nat.{ℕ, zero, suc, _+_, _<_}
 use mathlib.Core.Path.{_≡_, refl, sym, ap, subst, _∙_}
-use mathlib.Core.Logic.{_↔_, _⊎_, inl, inr}
+use mathlib.Core.Logic.{_↔_, inl, inr}
 use native.Mathlib.Omega.{arith}
-use Rattle.causality.specs.Event.{Event, History, Of}
 use Rattle.causality.specs.Past.{Link, Past, here, on}
 use Rattle.causality.specs.Messages.{Action, send, receive, actor, messageOf, messages, Computation, Before, own, message, Below, itself, further}
 use Rattle.causality.proofs.Events.{of-pos, of-either, of-cases}

@@ -1,14 +1,14 @@
 -- Pasts and views: past is reflexive and transitive, events of one process are comparable, and what one more event adds.
-use Prim.Native.Nat.{ℕ, zero, suc, _≤_, _<_}
+use Prim.Native.Nat.{ℕ, suc, _≤_, _<_}
 use mathlib.Core.Path.{_≡_, refl, sym, subst}
 use mathlib.Core.Logic.{_↔_, _⊎_, inl, inr}
 use native.Mathlib.Omega.{arith}
-use native.Mathlib.Decide.{decLe, decLt}
-use Rattle.causality.specs.Event.{Event, History, Of, takesPart}
-use Rattle.causality.specs.Past.{Link, Chain, here, on, Past, newest, last, View}
+use native.Mathlib.Decide.{decLt}
+use Rattle.causality.specs.Event.{History, Of, takesPart}
+use Rattle.causality.specs.Past.{Link, here, on, Past, last, View}
 use Rattle.causality.specs.Latest.{Newest}
-use Rattle.causality.proofs.Newest.{newest-test, newest-ge, newest-unique, newest-suc-yes, newest-suc-no, newest-zero}
-use Rattle.causality.proofs.Events.{of-pos, of-first, of-second, of-cases, of-test, of-dec}
+use Rattle.causality.proofs.Newest.{newest-test, newest-ge, newest-unique, newest-suc-yes, newest-suc-no}
+use Rattle.causality.proofs.Events.{of-pos, of-first, of-second, of-cases, of-test}
 
 module _ {h : History} where
   pub past-pos : {x y : ℕ} → Past h x y → 0 < x

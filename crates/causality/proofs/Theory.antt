@@ -1,10 +1,8 @@
 -- The theorems of `specs/Theory.antt` hold of every history.
-use Prim.Native.Nat.{ℕ, suc, _≤_, _<_}
-use mathlib.Core.Path.{_≡_, sym, _∙_, ap}
+use Prim.Native.Nat.{suc}
 use native.Mathlib.Omega.{arith}
-use Rattle.causality.specs.Event.{Event, History, Of}
-use Rattle.causality.specs.Past.{here, last}
-use Rattle.causality.specs.Clock.{latest, latestIn}
+use Rattle.causality.specs.Event.{History}
+use Rattle.causality.specs.Past.{here}
 use Rattle.causality.specs.Theory.{Theory}
 use Rattle.causality.proofs.Pasts.{past-le, past-trans, comparable, view-apart, view-joined}
 use Rattle.causality.proofs.Clocks.{best-pasts, past-test, past-dec, latest-apart, latest-own, latest-max, latest-iff, latestIn-iff, latest-self}

@@ -1,7 +1,7 @@
 -- Events and histories: who takes part in what, and in which order.
 -- Document 01: "A **meeting** joins two different heads." Document 003, section 2: c_ij and dom(c_ij).
 use Prim.Native.Nat.{ℕ, zero, suc}
-use mathlib.Core.Bool.{Bool, true, false, _||_}
+use mathlib.Core.Bool.{Bool, false, _||_}
 use lib.Dec.{T, eqb}
 
 -- An event has two processes that take part in it: for a meeting the two heads that meet.

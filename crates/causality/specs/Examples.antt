@@ -1,13 +1,12 @@
 -- Worked histories, by evaluation.
-use Prim.Native.Nat.{ℕ}
 use mathlib.Core.Path.{_≡_, refl}
-use mathlib.Core.List.{List, [], _∷_, _++_, map}
-use Rattle.causality.specs.Event.{Event, History, takesPart}
+use mathlib.Core.List.{[], _∷_, map}
+use Rattle.causality.specs.Event.{History, takesPart}
 use Rattle.causality.specs.Past.{last, newest}
 use Rattle.causality.specs.Clock.{put, maxima, joined, clocks, latest, latestIn}
 use Rattle.causality.specs.Best.{newer, best, bestIn, upTo, verdicts}
 use Rattle.causality.specs.Meetings.{meeting, meetings}
-use Rattle.causality.specs.Messages.{Action, send, receive, actor, messageOf, messages, word}
+use Rattle.causality.specs.Messages.{send, receive, actor, messageOf, messages, word}
 
 -- Document 003, example 2.4: N = 5 and c_12 c_13 c_14 c_45 c_25 c_24
 pub example-2-4 : History

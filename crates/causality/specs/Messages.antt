@@ -4,7 +4,7 @@ use Prim.Native.Nat.{ℕ, suc, _+_, _≤_, _<_}
 use mathlib.Core.Path.{_≡_}
 use mathlib.Core.List.{List}
 use lib.ListN.{getD}
-use Rattle.causality.specs.Event.{Event, History}
+use Rattle.causality.specs.Event.{History}
 
 -- An action is a send from one process to another, or the receipt by a process of what was sent at a place (φ of document 004).
 pub data Action : Type 0 where

@@ -3,12 +3,12 @@ use Prim.Native.Nat.{ℕ, suc, _≤_, _<_}
 use mathlib.Core.Path.{_≡_}
 use mathlib.Core.Logic.{_↔_, _⊎_}
 use lib.Dec.{T}
-use Rattle.causality.specs.Event.{Event, History, Of}
+use Rattle.causality.specs.Event.{History, Of}
 use Rattle.causality.specs.Past.{Past, last, View}
 use Rattle.causality.specs.Latest.{LatestIn, Latest}
 use Rattle.causality.specs.Clock.{latest, latestIn, inPast}
 use Rattle.causality.specs.Best.{best, bestIn}
-use Rattle.causality.specs.Known.{Order, Known, CommonEvent}
+use Rattle.causality.specs.Known.{Known, CommonEvent}
 use Rattle.causality.specs.GoodPath.{LatestByPath, BestByPath, Winner, winner}
 use Rattle.causality.specs.Meetings.{Agree}
 

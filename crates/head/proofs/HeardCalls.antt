@@ -1,12 +1,11 @@
 -- The heard list, by what the check answers and by the buffer.
 use Prim.Native.Nat.{ℕ, _+_, _*_}
-use mathlib.Core.Path.{_≡_, refl, sym, ap, subst, _∙_}
+use mathlib.Core.Path.{_≡_, refl, sym, ap, subst}
 use mathlib.Core.List.{List}
 use borrow.Author.Tests.{eq-eqb, ne-eqb}
 use lib.ListN.{length}
 use Rattle.image.specs.Check.{checked}
 use Rattle.image.specs.declared.Header.{Header}
-use Rattle.image.specs.declared.Checked.{Checked}
 use Rattle.image.specs.declared.Checked.the-variants.{Good, Refused}
 use Rattle.head.specs.Heard.{HeardList, HeardInto, HeardFrom, HeardCall}
 

@@ -8,18 +8,16 @@ use native.Mathlib.Nat.{zero-add, add-zero}
 use native.Mathlib.Decide.{decLe, ℕ-discrete}
 use borrow.Author.Tests.{le-leb, lt-leb, eq-eqb, ne-eqb}
 use lib.Dec.{leb, eqb}
-use lib.ListN.{length, take, drop, getD, replicate, length-append}
+use lib.ListN.{length, take, drop, replicate, length-append}
 use lib.Seq.{take-at}
-use Rattle.image.specs.Layout.{yieldPlace, partnerAt, labelAt, nameFrom, nameAt, heardAt}
+use Rattle.image.specs.Layout.{partnerAt, labelAt, nameFrom, nameAt, heardAt}
 use Rattle.image.specs.Frame.{Framed}
-use Rattle.image.specs.Row.{neverAt, ownRow}
-use Rattle.image.specs.declared.Meet.{Meet}
-use Rattle.image.specs.declared.Name.{Name}
+use Rattle.image.specs.Row.{isNever, ownRow}
 use Rattle.image.specs.declared.Name.the-variants.{Never, With}
 use Rattle.image.specs.declared.Entry.{Entry}
 use Rattle.image.proofs.OwnRow.{own-row-name}
 use Rattle.head.specs.Heard.{occurrences, recordOf, HeardList}
-use Rattle.head.specs.HeardOrder.{isName, heardIn, chosen, recordAt, recordsTo}
+use Rattle.head.specs.HeardOrder.{heardIn, chosen, recordAt, recordsTo}
 use Rattle.head.proofs.Records.{length-recordsTo}
 
 -- The stalls that pass a test, each once
@@ -85,18 +83,18 @@ occurrences-chosen r (suc n) f =
 
 -- The own row says who was heard
 
-named : (p l : ℕ) → isName (nameFrom p l) ≡ not (eqb p 0)
+named : (p l : ℕ) → not (isNever (nameFrom p l)) ≡ not (eqb p 0)
 unfolding nameFrom
 named p l = go (eqb p 0)
   where
-    go : (t : Bool) → isName (cond t Never (With (record { partner = p; label = l }))) ≡ not t
+    go : (t : Bool) → not (isNever (cond t Never (With (record { partner = p; label = l })))) ≡ not t
     go true = refl
     go false = refl
 
 heard-agree : (s : List ℕ) (n own : ℕ) (row : List Entry) → Framed s n own → row ≡ ownRow s n own → (r : ℕ) → 1 ≤ r → r ≤ n → heardIn row r ≡ heardAt s n own r
 unfolding nameAt heardAt
 heard-agree s n own row f e r a b =
-    ap (λ w. heardIn w r) e ∙ ap isName (own-row-name s n own f r a b) ∙ named (partnerAt s n own r) (labelAt s n own r)
+    ap (λ w. heardIn w r) e ∙ ap (λ x. not (isNever x)) (own-row-name s n own f r a b) ∙ named (partnerAt s n own r) (labelAt s n own r)
 
 -- The whole list
 

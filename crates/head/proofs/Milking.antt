@@ -1,17 +1,16 @@
 -- A milking, by what the check answers.
 use Prim.Native.Nat.{ℕ, _≤_, _<_}
-use mathlib.Core.Path.{_≡_, refl, sym, ap, _∙_}
+use mathlib.Core.Path.{_≡_}
 use mathlib.Core.List.{List}
 use native.Mathlib.Omega.{arith}
 use borrow.Author.Tests.{lt-ltb, le-ltb}
 use lib.ListN.{length}
 use Rattle.image.specs.Layout.{yieldLimit}
-use Rattle.image.specs.Check.{checked, numberOf}
+use Rattle.image.specs.Check.{checked}
 use Rattle.image.specs.declared.Header.{Header}
-use Rattle.image.specs.declared.Checked.{Checked}
 use Rattle.image.specs.declared.Checked.the-variants.{Good, Refused}
 use Rattle.image.proofs.Accepted.{accepted}
-use Rattle.head.specs.Calls.{Outcome, refused, accepted as done, withCurrent, milked, milkingCall}
+use Rattle.head.specs.Calls.{refused, accepted as done, withCurrent, milked, milkingCall}
 
 module _ (s : List ℕ) (yield : ℕ) where
   pub milking-refused : {k code : ℕ} → checked s ≡ Refused k → code ≡ k → refused code s ≡ milkingCall s yield

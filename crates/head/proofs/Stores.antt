@@ -1,10 +1,10 @@
 -- Stores into a lent run: what stands before a place stays, and the rest is written on from there.
-use Prim.Native.Nat.{ℕ, zero, suc, _+_, _-_, _≤_, _<_}
-use mathlib.Core.Path.{_≡_, refl, sym, ap, _∙_}
+use Prim.Native.Nat.{ℕ, suc, _+_, _-_, _≤_, _<_}
+use mathlib.Core.Path.{_≡_, sym, ap, _∙_}
 use mathlib.Core.List.{List, [], _∷_, _++_, append-assoc, append-nil}
 use native.Mathlib.Omega.{arith}
 use lib.ListN.{length, take, drop, set, replicate, length-append, length-replicate, replicate-append-replicate, take-append-drop}
-use lib.Seq.{drop-cons, append-snoc, set-append-seam, set-at, sets-eq, length-take-le, drop-length, drop-drop}
+use lib.Seq.{drop-cons, append-snoc, set-at, sets-eq, length-take-le, drop-length}
 
 -- one byte more behind what is written
 pub store-next : (d p : List ℕ) (i v : ℕ) → length p ≡ i → i < length d → set (p ++ drop i d) i v ≡ p ++ (v ∷ []) ++ drop (suc i) d

@@ -6,7 +6,7 @@ use lib.Dec.{leb, ltb, eqb}
 use lib.ListN.{length, set}
 use Rattle.image.specs.Layout.{largest, yieldLimit, lengthOf}
 use Rattle.image.specs.Fresh.{freshImage}
-use Rattle.image.specs.Check.{badStall, checked, numberOf}
+use Rattle.image.specs.Check.{badStall, checked}
 use Rattle.image.specs.declared.Checked.{Checked}
 use Rattle.image.specs.declared.Checked.the-variants.{Good, Refused}
 

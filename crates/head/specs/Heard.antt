@@ -1,7 +1,7 @@
 -- The heard list.
 -- Document 01: "The heard list of an image writes, for each heard stall, the stall byte and two yield bytes, then zeros to the end, and returns how many.
 -- The order of records is open for now."
-use Prim.Native.Nat.{ℕ, zero, suc, _+_, _-_, _*_}
+use Prim.Native.Nat.{ℕ, _+_, _-_, _*_}
 use mathlib.Core.Path.{_≡_}
 use mathlib.Core.Bool.{Bool, true, false, _&&_, cond}
 use mathlib.Core.List.{List, [], _∷_, _++_, flatMap}

@@ -1,21 +1,14 @@
 -- What the functions behind the heard list say to each other: they go by stall number. No caller of `wilbryn_heard` can see this.
 use Prim.Native.Nat.{ℕ, zero, suc, _+_, _-_, _*_}
-use mathlib.Core.Bool.{Bool, true, false, cond}
+use mathlib.Core.Bool.{Bool, not, cond}
 use mathlib.Core.List.{List, [], _∷_, _++_, flatMap}
 use lib.ListN.{getD}
-use Rattle.image.specs.Row.{neverAt}
-use Rattle.image.specs.declared.Name.{Name}
-use Rattle.image.specs.declared.Name.the-variants.{Never, With}
+use Rattle.image.specs.Row.{isNever, neverAt}
 use Rattle.image.specs.declared.Entry.{Entry}
-
--- a name is not none
-abbrev pub isName : Name → Bool
-isName Never = false
-isName (With m) = true
 
 -- column r of a row has a name
 abbrev pub heardIn : List Entry → ℕ → Bool
-heardIn row r = isName (getD row (r - 1) (neverAt 0) .name)
+heardIn row r = not (isNever (getD row (r - 1) (neverAt 0) .name))
 
 -- the stalls of 1 to n that pass a test, by number
 unfoldable pub chosen : ℕ → (ℕ → Bool) → List ℕ

@@ -1,27 +1,25 @@
 // The heard list: records of three bytes, a stall and its yield.
 ghost use mathlib.Core.Path.{_≡_};
 ghost use Prim.Native.Nat.{_+_, _-_, _*_, _≤_};
-ghost use mathlib.Core.Bool.{cond};
+ghost use mathlib.Core.Bool.{not, cond};
 ghost use mathlib.Core.List.{[], _∷_, _++_};
 ghost use lib.ListN.{length, take, drop, replicate};
 ghost use Rattle.image.specs.Frame.{Framed};
 ghost use Rattle.image.specs.Layout.{largest};
+ghost use Rattle.image.specs.Row.{isNever};
 ghost use Rattle.head.specs.Heard.{HeardList};
-ghost use Rattle.head.specs.HeardOrder.{isName, chosen, heardIn, recordsTo};
+ghost use Rattle.head.specs.HeardOrder.{chosen, heardIn, recordsTo};
 use image::Entry;
-use image::Name;
 use image::bytes::wide;
+use image::rows::is_never;
 use image::rows::own_row;
 
 // A record has a name.
 fn is_heard(e: Entry) -> bool
-    ensures { λ r. ⌜ r ≡ isName (e .name) ⌝ }
+    ensures { λ r. ⌜ r ≡ not (isNever (e .name)) ⌝ }
 {
     let name = e.name;
-    match name {
-        Name::Never => false,
-        Name::With(_) => true,
-    }
+    !is_never(name)
 }
 
 // One record at a place if the stall is heard, and the place after it.

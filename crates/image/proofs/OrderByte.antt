@@ -1,14 +1,12 @@
 -- The test of an order byte by masks is the one of document 01, mark by mark.
-use Prim.Native.Nat.{ℕ, _+_, _-_, _*_, _^_, _≤_, _<_}
-use mathlib.Core.Path.{_≡_, refl, sym, ap, ap₂, _∙_}
+use Prim.Native.Nat.{ℕ, _-_, _^_, _≤_, _<_}
+use mathlib.Core.Path.{_≡_, ap, ap₂, _∙_}
 use mathlib.Core.Bool.{Bool, true, false, _&&_, _||_, not, cond, Bool·not-not}
 use mathlib.Core.List.{List}
-use native.Mathlib.Omega.{arith}
 use lib.Bits.{bitAnd}
 use lib.Dec.{eqb, leb}
-use lib.ListN.{getD}
 use Rattle.image.specs.Stalls.{some, bits, has}
-use Rattle.image.specs.Layout.{largest, rowPlace, orderAt, markAt, heardAt}
+use Rattle.image.specs.Layout.{largest, orderAt, markAt, heardAt}
 use Rattle.image.specs.Check.{badOrder}
 use Rattle.image.proofs.Bits.{has-zero, has-bits, part-test, bit-test}
 use Rattle.image.proofs.Search.{some-agree}

@@ -1,6 +1,6 @@
 -- The own row as records has the names of the image.
 use Prim.Native.Nat.{ℕ, suc, _+_, _-_, _*_, _≤_}
-use mathlib.Core.Path.{_≡_, refl, ap, _∙_}
+use mathlib.Core.Path.{_≡_, ap, _∙_}
 use mathlib.Core.List.{List}
 use native.Mathlib.Omega.{arith}
 use borrow.Author.Tests.{le-leb}
@@ -8,7 +8,6 @@ use lib.ListN.{length, getD}
 use Rattle.image.specs.Layout.{largest, rowPlace, nameAt}
 use Rattle.image.specs.Frame.{Framed}
 use Rattle.image.specs.Row.{tabulate, neverAt, entryAt, ownRow}
-use Rattle.image.specs.declared.Entry.{Entry}
 use Rattle.image.proofs.Places.{row-within}
 use Rattle.image.proofs.Fill.{length-tabulate, getD-tabulate}
 

@@ -4,8 +4,8 @@ use mathlib.Core.List.{List}
 use native.Mathlib.Omega.{arith}
 use native.Mathlib.Nat.{mul-le-mul-right}
 use lib.ListN.{length}
-use Rattle.image.specs.Layout.{rowPlace, namePlace}
-use Rattle.image.specs.Frame.{Framed, RowAt}
+use Rattle.image.specs.Layout.{rowPlace}
+use Rattle.image.specs.Frame.{RowAt}
 use Rattle.image.proofs.Search.{times-step}
 
 -- a row ends before the yields

@@ -1,15 +1,14 @@
 -- Names, yields and marks are read from byte 4 on: two images with the same bytes there pass the same checks.
-use Prim.Native.Nat.{ℕ, _+_, _-_, _*_, _≤_}
-use mathlib.Core.Path.{_≡_, refl, sym, ap, ap₂, _∙_}
-use mathlib.Core.Bool.{Bool, true, false, _&&_, _||_, not}
+use Prim.Native.Nat.{ℕ, _+_, _*_, _≤_}
+use mathlib.Core.Path.{_≡_, ap, ap₂, _∙_}
+use mathlib.Core.Bool.{_&&_, _||_, not}
 use mathlib.Core.List.{List}
 use native.Mathlib.Omega.{arith}
 use borrow.Author.Tests.{le-ltb}
 use lib.Dec.{leb, ltb, eqb}
 use lib.ListN.{length, getD}
 use Rattle.image.specs.Stalls.{some, has}
-use Rattle.image.specs.Layout.{largest, yieldLimit, labelLimit, noYield, namePlace, yieldPlace, orderPlace, currentAt, partnerAt, labelAt, yieldAt, orderAt, markAt, heardAt}
-use Rattle.image.specs.Frame.{Framed}
+use Rattle.image.specs.Layout.{largest, yieldLimit, labelLimit, noYield, namePlace, yieldPlace, orderPlace, currentAt, partnerAt, labelAt, yieldAt, markAt, heardAt}
 use Rattle.image.specs.Check.{badName, badDiagonal, badUnheard, badRow, badNames, badOrder, badMarks, badYields}
 use Rattle.image.proofs.Search.{some-agree}
 use Rattle.image.proofs.Accepted.{Accepted, not-either}

@@ -17,7 +17,7 @@ pub times-step : (s width : ℕ) → 1 ≤ s → (s - 1) * width + width ≡ s *
 times-step zero width l = absurd (omega arith)
 times-step (suc s) width l = let e : suc s - 1 ≡ s = omega arith in rw e (omega arith)
 
-some-suc : (f : ℕ → Bool) (s : ℕ) → 1 ≤ s → some s f ≡ (f s || some (s - 1) f)
+pub some-suc : (f : ℕ → Bool) (s : ℕ) → 1 ≤ s → some s f ≡ (f s || some (s - 1) f)
 unfolding some
 some-suc f zero l = absurd (omega arith)
 some-suc f (suc s) l = let e : s ≡ suc s - 1 = omega arith in ap (λ k. f (suc s) || some k f) e

@@ -6,7 +6,6 @@ use lib.Dec.{leb, ltb, eqb}
 use lib.ListN.{length, getD}
 use Rattle.image.specs.Stalls.{some}
 use Rattle.image.specs.Layout.{largest, yieldLimit, labelLimit, noYield, lengthOf, currentAt, partnerAt, labelAt, yieldAt, markAt, heardAt}
-use Rattle.image.specs.declared.Header.{Header}
 use Rattle.image.specs.declared.Checked.{Checked}
 use Rattle.image.specs.declared.Checked.the-variants.{Good, Refused}
 

@@ -1,7 +1,6 @@
 -- Document 01's examples for the numbers 1 to 6, and the listing's image, by evaluation.
-use Prim.Native.Nat.{ℕ, zero, suc}
+use Prim.Native.Nat.{ℕ}
 use mathlib.Core.Path.{_≡_, refl}
-use mathlib.Core.Bool.{cond}
 use mathlib.Core.List.{List, [], _∷_, _++_, map}
 use lib.ListN.{replicate}
 use Rattle.image.specs.Stalls.{some, each, bits, has}

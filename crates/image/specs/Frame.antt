@@ -3,7 +3,7 @@ use Prim.Native.Nat.{ℕ, _+_, _*_, _≤_}
 use mathlib.Core.Path.{_≡_}
 use mathlib.Core.List.{List}
 use lib.ListN.{length}
-use Rattle.image.specs.Layout.{largest, labelLimit, rowPlace, yieldPlace}
+use Rattle.image.specs.Layout.{largest, rowPlace, yieldPlace}
 
 -- an image that has passed the checks 1 and 2
 pub record Sized (s : List ℕ) (n : ℕ) : Type 0 where

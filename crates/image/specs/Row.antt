@@ -1,13 +1,18 @@
 -- A row as records, each of which holds a name.
 use Prim.Native.Nat.{ℕ, zero, suc, _+_, _-_, _*_}
-use mathlib.Core.Bool.{_&&_, cond}
+use mathlib.Core.Bool.{Bool, true, false, _&&_, cond}
 use mathlib.Core.List.{List, [], _∷_, _++_}
 use lib.Dec.{leb}
 use lib.ListN.{length, getD}
 use Rattle.image.specs.Layout.{largest, rowPlace, nameFrom}
 use Rattle.image.specs.declared.Name.{Name}
-use Rattle.image.specs.declared.Name.the-variants.{Never}
+use Rattle.image.specs.declared.Name.the-variants.{Never, With}
 use Rattle.image.specs.declared.Entry.{Entry}
+
+-- a name is none
+abbrev pub isNever : Name → Bool
+isNever Never = true
+isNever (With m) = false
 
 -- f 1, f 2, .., f m
 unfoldable pub tabulate : ℕ → (ℕ → Entry) → List Entry

@@ -3,12 +3,22 @@ ghost use mathlib.Core.Path.{_≡_};
 ghost use Prim.Native.Nat.{_+_, _*_, _≤_};
 ghost use lib.ListN.{length};
 ghost use Rattle.image.specs.Layout.{largest};
-ghost use Rattle.image.specs.Row.{tabulate, entryAt, ownRow};
+ghost use Rattle.image.specs.Row.{isNever, tabulate, entryAt, ownRow};
 use crate::Entry;
 use crate::Name;
 use crate::bytes::row_place;
 use crate::bytes::wide;
 use crate::name_from;
+
+// A name is none.
+pub fn is_never(name: Name) -> bool
+    ensures { λ r. ⌜ r ≡ isNever name ⌝ }
+{
+    match name {
+        Name::Never => true,
+        Name::With(_) => false,
+    }
+}
 
 // The row that starts at a place.
 fn row_at(image: &[u8], n: usize, at: usize) -> [Entry; 8]

@@ -1,14 +1,14 @@
 -- The bound: whatever names of a pair the two heads hold, they are at most N - 1 meetings.
 -- Let L be the pair's last meeting. For a stall u take the newest meeting of u in the past of L, and in the past of that the newest of the pair: every
 -- meeting of the pair that is named is one of these, and for the two of the pair it is L itself. So one of the N stalls can be left out.
-use Prim.Native.Nat.{ℕ, zero, suc, _*_, _≤_, _<_}
+use Prim.Native.Nat.{ℕ, suc, _≤_, _<_}
 use mathlib.Core.Path.{_≡_, refl, sym, ap, subst, _∙_}
 use mathlib.Core.Logic.{_⊎_, inl, inr, Dec·and}
 use mathlib.Core.List.{List, map, List·Memᴰ, Memᴰ·cast, Memᴰ·map}
 use native.Mathlib.Omega.{arith}
 use native.Mathlib.Decide.{decLe}
 use lib.ListN.{length, length-map}
-use Rattle.causality.specs.Event.{Event, History, Of}
+use Rattle.causality.specs.Event.{History, Of}
 use Rattle.causality.specs.Past.{Link, Past, here, on, View}
 use Rattle.causality.specs.Latest.{Newest}
 use Rattle.causality.specs.Clock.{latest, latestIn}

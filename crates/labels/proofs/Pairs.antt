@@ -1,14 +1,13 @@
 -- Pairs of stalls: two meetings join the same two exactly where the test says so, whatever end a name is read from.
-use Prim.Native.Nat.{ℕ, zero, suc, _<_}
-use mathlib.Core.Path.{_≡_, refl, sym, ap, subst, _∙_}
-use mathlib.Core.Bool.{Bool, true, false, _&&_, _||_, cond}
-use mathlib.Core.Logic.{_↔_, _⊎_, inl, inr}
+use Prim.Native.Nat.{ℕ, zero, suc}
+use mathlib.Core.Path.{_≡_, refl, sym, _∙_}
+use mathlib.Core.Bool.{Bool, true, false, _&&_}
+use mathlib.Core.Logic.{inl, inr}
 use native.Mathlib.Omega.{arith}
 use native.Mathlib.Decide.{ℕ-discrete}
 use borrow.Author.Tests.{eq-eqb, ne-eqb}
 use lib.Dec.{T, eqb, eqb→eq}
 use Rattle.causality.specs.Event.{Event, History, Of}
-use Rattle.causality.specs.Meetings.{Joins}
 use Rattle.causality.proofs.Events.{or-cases, or-left, or-right, of-pos, of-cases, of-either}
 use Rattle.labels.specs.Label.{samePair, between}
 use Rattle.labels.specs.Name.{SamePair, in-order, exchanged, partnerOf}

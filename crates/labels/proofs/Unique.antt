@@ -1,11 +1,11 @@
 -- Uniqueness: in own rows a pair and a label stand for one meeting.
 use Prim.Native.Nat.{ℕ, zero, suc, _≤_, _<_}
-use mathlib.Core.Path.{_≡_, refl, sym, ap, subst, _∙_}
+use mathlib.Core.Path.{_≡_, refl, sym, subst}
 use mathlib.Core.Logic.{_↔_, _⊎_, inl, inr}
 use native.Mathlib.Omega.{arith}
-use native.Mathlib.Decide.{ℕ-discrete, decLe, decLt}
-use Rattle.causality.specs.Event.{Event, History, Of}
-use Rattle.causality.specs.Clock.{latest, latestIn}
+use native.Mathlib.Decide.{decLt}
+use Rattle.causality.specs.Event.{History, Of}
+use Rattle.causality.specs.Clock.{latest}
 use Rattle.causality.specs.Meetings.{Joins}
 use Rattle.causality.proofs.Events.{of-pos, of-cases}
 use Rattle.causality.proofs.Clocks.{latest-le, latest-of, latestIn-le}

@@ -1,9 +1,8 @@
 -- Labels of worked lists, by evaluation.
-use Prim.Native.Nat.{ℕ, zero, suc, _+_}
+use Prim.Native.Nat.{ℕ}
 use mathlib.Core.Path.{_≡_, refl}
-use mathlib.Core.List.{List, [], _∷_, _++_, map, flatMap}
+use mathlib.Core.List.{[], _∷_, map, flatMap}
 use lib.ListN.{length}
-use Rattle.causality.specs.Event.{Event, History}
 use Rattle.causality.specs.Clock.{put, maxima, joined, clocks, latest, latestIn}
 use Rattle.causality.specs.Best.{upTo}
 use Rattle.causality.specs.Meetings.{meeting, meetings}

@@ -3,7 +3,7 @@ use Prim.Native.Nat.{ℕ, suc, _*_, _≤_, _<_}
 use mathlib.Core.Path.{_≡_}
 use mathlib.Core.Logic.{_↔_, _⊎_}
 use lib.Dec.{T}
-use Rattle.causality.specs.Event.{Event, History}
+use Rattle.causality.specs.Event.{History}
 use Rattle.causality.specs.Clock.{latest, latestIn}
 use Rattle.causality.specs.Meetings.{Agree}
 use Rattle.labels.specs.Label.{between, label}

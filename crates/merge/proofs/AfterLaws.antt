@@ -12,6 +12,7 @@ use Rattle.image.specs.Stalls.{some, each}
 use Rattle.image.specs.Layout.{largest, yieldLimit}
 use Rattle.image.specs.Encode.{Table, encode, tableOf}
 use Rattle.image.specs.Made.{NameIn, Made}
+use Rattle.image.specs.Row.{isNever}
 use Rattle.image.specs.declared.Meet.{Meet}
 use Rattle.image.specs.declared.Name.{Name}
 use Rattle.image.specs.declared.Name.the-variants.{Never, With}
@@ -21,13 +22,13 @@ use Rattle.image.proofs.Passing.{and-holds, some-fails}
 use Rattle.image.proofs.Accepted.{Accepted, checked-accepted}
 use Rattle.image.proofs.AcceptedMade.{accepted-made}
 use Rattle.image.proofs.MadeAccepted.{read-name, read-mark, made-accepted}
-use Rattle.merge.specs.Known.{isNever, sameMeeting, common, known}
+use Rattle.merge.specs.Known.{sameMeeting, common, known}
 use Rattle.merge.specs.Verdict.{sameName, judge, verdict, undecided}
 use Rattle.merge.specs.Label.{newLabel}
 use Rattle.merge.specs.Merged.{met, firstHas, secondHas, supplier, supplierStall, latestName, mergedNames, mergedYields, orderBetween, mergedOrder, merged, verdictBytes}
 use Rattle.merge.specs.Call.{refusedMeeting, acceptedMeeting, metTogether, metGood, metChecked, meetingCall}
 use Rattle.merge.proofs.Agreeing.{verdict-agree}
-use Rattle.merge.proofs.Pairs.{each-agree}
+use Rattle.merge.proofs.PairRows.{each-agree}
 use Rattle.merge.proofs.NewLabel.{newLabel-limit}
 
 -- Cases

@@ -22,7 +22,7 @@ use Rattle.merge.specs.Merged.{supplier, latestName, mergedNames, merged
 use Rattle.merge.specs.Orders.{Ordered}
 use Rattle.merge.specs.Judged.{Judged}
 use Rattle.merge.specs.Body.{pairAt, latestPair, bodyRow, bodyYield}
-use Rattle.merge.proofs.Pairs.{each-agree}
+use Rattle.merge.proofs.PairRows.{each-agree}
 
 -- the first bytes of a list, one a stall
 pub take-each : (n : ℕ) (l : List ℕ) (f : ℕ → ℕ) → n ≤ length l → ((r : ℕ) → 1 ≤ r → r ≤ n → getD l (r - 1) 0 ≡ f r) → take n l ≡ each n (λ r. f r ∷ [])

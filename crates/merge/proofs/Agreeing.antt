@@ -3,9 +3,10 @@ use Prim.Native.Nat.{ℕ, _≤_}
 use mathlib.Core.Path.{_≡_, ap, ap₂}
 use mathlib.Core.Bool.{Bool, _&&_, _||_}
 use Rattle.image.specs.Encode.{Table}
+use Rattle.image.specs.Row.{isNever}
 use Rattle.image.specs.declared.Name.{Name}
 use Rattle.image.proofs.Search.{some-agree}
-use Rattle.merge.specs.Known.{isNever, sameMeeting, common, known}
+use Rattle.merge.specs.Known.{sameMeeting, common, known}
 use Rattle.merge.specs.Verdict.{verdict}
 
 -- two functions of the stalls 1 to n

@@ -13,7 +13,7 @@ use Rattle.image.specs.Frame.{Sized, Framed}
 use Rattle.image.proofs.Has.{length-each}
 use Rattle.image.proofs.Places.{row-within}
 use Rattle.merge.specs.Body.{sourceOf, sourceStall, pairAt, latestPair, bodyRow, bodyYield, padded, rowIn}
-use Rattle.merge.proofs.Pairs.{each-agree, length-choice, length-padded}
+use Rattle.merge.proofs.PairRows.{each-agree, length-choice, length-padded}
 use Rattle.merge.proofs.Written.{length-each-to}
 
 -- what stands before the zeros

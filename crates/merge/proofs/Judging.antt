@@ -1,27 +1,23 @@
 -- The verdicts that the code finds by masks are those of the tables.
-use Prim.Native.Nat.{ℕ, zero, suc, _+_, _-_, _*_, _≤_, _<_}
-use mathlib.Core.Path.{_≡_, refl, sym, ap, subst, _∙_}
-use mathlib.Core.Bool.{Bool, _||_, not}
-use mathlib.Core.List.{List, []}
+use Prim.Native.Nat.{ℕ, suc, _+_, _-_, _≤_, _<_}
+use mathlib.Core.Path.{_≡_, ap, subst, _∙_}
+use mathlib.Core.Bool.{_||_, not}
+use mathlib.Core.List.{List}
 use native.Mathlib.Omega.{arith}
-use native.Mathlib.Decide.{ℕ-discrete}
 use lib.Bits.{bitAnd}
 use lib.Dec.{eqb}
-use lib.ListN.{length, getD, set, length-set, replicate}
-use lib.Seq.{getD-set-same, getD-set-other}
+use lib.ListN.{getD}
 use Rattle.image.specs.Stalls.{bits, has}
 use Rattle.image.specs.Layout.{orderPlace, orderAt, nameAt, markAt}
 use Rattle.image.specs.Frame.{Framed}
-use Rattle.image.specs.Row.{neverAt, ownRow}
-use Rattle.image.specs.Encode.{Table, tableOf}
-use Rattle.image.specs.declared.Name.{Name}
+use Rattle.image.specs.Row.{isNever, neverAt, ownRow}
+use Rattle.image.specs.Encode.{tableOf}
 use Rattle.image.specs.declared.Entry.{Entry}
 use Rattle.image.proofs.Bits.{common-test}
 use Rattle.image.proofs.OwnRow.{own-row-name}
-use Rattle.merge.specs.Known.{isNever, common, known}
+use Rattle.merge.specs.Known.{common, known}
 use Rattle.merge.specs.Verdict.{sameName, judge, verdict}
 use Rattle.merge.specs.Rows.{nameIn}
-use Rattle.merge.specs.Judged.{byteOf, Judged}
 use Rattle.merge.proofs.Agreeing.{known-agree}
 
 -- One head's latest of r is known to the other, by bytes
@@ -62,21 +58,3 @@ verdict-next s u n p q f g mine theirs e i r at order other mask back x l a j k 
     (λ z. judge (isNever (getD mine z (neverAt 0) .name) || not (eqb (bitAnd order mask) 0)) (isNever (getD theirs z (neverAt 0) .name) || not (eqb (bitAnd other back) 0)) (sameName (getD mine z (neverAt 0) .name) (getD theirs z (neverAt 0) .name)) ≡ verdict n p (tableOf s n) q (tableOf u n) (suc r))
     down
     (verdict-bytes s u n p q f g mine theirs e i (suc r) order other mask back (omega arith) l (j ∙ ap (λ z. getD s z 0) place) (k ∙ ap (λ z. getD u z 0) place) m w)
-
--- The verdicts, filled in one after the other
-
-pub judged-start : (s u : List ℕ) (n p q : ℕ) → Judged s u n p q 0 (replicate 8 0)
-judged-start s u n p q = record { long = refl; right = λ r a b. absurd (omega arith) }
-
-pub judged-next : {s u : List ℕ} {n p q m : ℕ} {out : List ℕ} → Judged s u n p q m out → m < 8 → (x : ℕ) → x ≡ verdict n p (tableOf s n) q (tableOf u n) (suc m)
-    → Judged s u n p q (m + 1) (set out m x)
-judged-next {s} {u} {n} {p} {q} {m} {out} w l x e =
-    record {
-      long = length-set out m x ∙ w .long;
-      right = λ r a b. elim (ℕ-discrete r (suc m)) [
-        | yes i ↦
-            let j : r - 1 ≡ m = omega arith in
-            ap (λ k. getD (set out m x) k 0) j ∙ getD-set-same out m x 0 (omega (arith, w .long)) ∙ e ∙ ap (verdict n p (tableOf s n) q (tableOf u n)) (sym i)
-        | no i ↦ getD-set-other out m (r - 1) x 0 (λ j. omega arith) ∙ w .right r a (omega arith)
-      ];
-    }

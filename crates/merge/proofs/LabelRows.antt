@@ -1,5 +1,5 @@
 -- The loop that gathers the labels of the rows 1 to n.
-use Prim.Native.Nat.{ℕ, zero, suc, _+_, _-_, _≤_, _<_}
+use Prim.Native.Nat.{ℕ, _+_, _-_, _≤_, _<_}
 use mathlib.Core.Path.{_≡_, sym, ap, ap₂, _∙_}
 use mathlib.Core.Bool.{Bool, _||_}
 use mathlib.Core.List.{List}
@@ -9,7 +9,7 @@ use Rattle.image.specs.Stalls.{some}
 use Rattle.image.specs.Layout.{rowPlace, nameAt}
 use Rattle.image.specs.Encode.{tableOf}
 use Rattle.image.specs.Frame.{Sized}
-use Rattle.image.proofs.Search.{times-step}
+use Rattle.image.proofs.Search.{times-step, some-suc}
 use Rattle.image.proofs.Places.{row-within}
 use Rattle.merge.specs.Label.{rowHas}
 use Rattle.merge.specs.LabelSet.{labelSet, nameHas, Column}
@@ -21,11 +21,6 @@ pub record Rows (n row r set : ℕ) (f : ℕ → ℕ → Bool) : Type 0 where
   pub to : r ≤ n + 1
   pub stands : row ≡ rowPlace n r
   pub so-far : set ≡ labelSet (λ k. some (r - 1) (f k))
-
-some-suc : (f : ℕ → Bool) (s : ℕ) → 1 ≤ s → some s f ≡ (f s || some (s - 1) f)
-unfolding some
-some-suc f zero l = absurd (omega arith)
-some-suc f (suc s) l = let e : s ≡ suc s - 1 = omega arith in ap (λ k. f (suc s) || some k f) e
 
 pub rows-start : (n : ℕ) (f : ℕ → ℕ → Bool) → Rows n 4 1 0 f
 unfolding some

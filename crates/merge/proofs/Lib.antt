@@ -1,4 +1,5 @@
 -- The lemmas of `merge`. What crates above cite is `pub mod`.
+pub mod ByStalls
 pub mod Commons
 pub mod Agreeing
 pub mod Judging
@@ -10,7 +11,7 @@ pub mod LabelRows
 pub mod Counting
 pub mod NewLabel
 pub mod Copies
-pub mod Pairs
+pub mod PairRows
 pub mod Mixing
 pub mod BodyRows
 pub mod Written

@@ -1,22 +1,20 @@
 -- The order byte that is put together from sets is that of the merged marks.
-use Prim.Native.Nat.{ℕ, _+_, _-_, _^_, _≤_, _<_}
-use mathlib.Core.Path.{_≡_, refl, sym, ap, ap₂, subst, _∙_}
+use Prim.Native.Nat.{ℕ, _^_, _≤_, _<_}
+use mathlib.Core.Path.{_≡_, refl, sym, ap, ap₂, _∙_}
 use mathlib.Core.Bool.{Bool, true, false, _&&_, _||_, not, cond, or-false, and-comm, false≢true}
 use native.Mathlib.Omega.{arith}
 use borrow.Author.Tests.{eqb-true, le-leb}
-use lib.Bits.{bitAnd, bitOr, and-le-l, or-lt}
-use lib.Dec.{eqb, leb}
+use lib.Bits.{bitAnd, and-le-l, or-lt}
+use lib.Dec.{eqb}
 use lib.Pow.{pow-pos}
 use Rattle.image.specs.Stalls.{bits, has}
 use Rattle.image.specs.Encode.{Table}
+use Rattle.image.specs.Row.{isNever}
 use Rattle.image.proofs.Bits.{has-ext, has-and, has-or, has-zero, has-bits, bits-lt}
 use Rattle.image.proofs.Encoding.{bits-agree}
-use Rattle.image.specs.declared.Meet.{Meet}
-use Rattle.image.specs.declared.Name.{Name}
-use Rattle.image.specs.declared.Name.the-variants.{Never, With}
+use Rattle.image.specs.declared.Name.the-variants.{With}
 use Rattle.merge.specs.Label.{newLabel}
 use Rattle.merge.specs.declared.Sets.{Sets}
-use Rattle.merge.specs.Known.{isNever}
 use Rattle.merge.specs.Verdict.{verdict}
 use Rattle.merge.specs.Merged.{supplier, supplierStall, latestName, mergedOrder}
 use Rattle.merge.specs.Orders.{isMet, Sorted, orderOf, heardFrom}

@@ -1,17 +1,16 @@
 -- A meeting as a call, by what the checks answer and by the buffer.
-use Prim.Native.Nat.{ℕ, _+_}
+use Prim.Native.Nat.{ℕ}
 use mathlib.Core.Path.{_≡_, sym, ap, _∙_}
-use mathlib.Core.Bool.{Bool, true, false, not, _||_, true≢false}
+use mathlib.Core.Bool.{Bool, true, false, not, _||_}
 use mathlib.Core.List.{List}
-use borrow.Author.Tests.{eqb-true, eqb-false, eq-eqb, ne-eqb, not-false}
+use borrow.Author.Tests.{eqb-true, eq-eqb, ne-eqb, not-false}
 use lib.Dec.{eqb}
 use lib.ListN.{length}
 use Rattle.image.specs.Check.{checked}
 use Rattle.image.specs.declared.Header.{Header}
-use Rattle.image.specs.declared.Checked.{Checked}
 use Rattle.image.specs.declared.Checked.the-variants.{Good, Refused}
 use Rattle.image.proofs.Accepted.{not-either}
-use Rattle.merge.specs.Call.{MeetingOutcome, refusedMeeting, metTogether, metGood, metChecked, meetingCall}
+use Rattle.merge.specs.Call.{refusedMeeting, metTogether, metGood, metChecked, meetingCall}
 
 -- two images "differ in N or have one stall"
 abbrev pub apart : Header → Header → Bool

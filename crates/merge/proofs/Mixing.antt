@@ -10,9 +10,9 @@ use Rattle.image.specs.Stalls.{each}
 use Rattle.image.specs.Layout.{rowPlace, yieldPlace}
 use Rattle.image.specs.Frame.{Framed}
 use Rattle.image.proofs.Places.{row-within}
-use Rattle.merge.specs.declared.rows.Side.{Side}
+use Rattle.merge.specs.declared.pairs.Side.{Side}
 use Rattle.merge.specs.Body.{pairAt, pairBytes, padded, mixedPair, latestPair, bodyYield}
-use Rattle.merge.proofs.Pairs.{each-agree}
+use Rattle.merge.proofs.PairRows.{each-agree}
 
 -- the own row lies within the image
 pub own-row-fits : {s : List ℕ} {n own : ℕ} (at m : ℕ) → Framed s n own → at ≡ rowPlace n own → m ≡ n → at + m * 2 ≤ length s

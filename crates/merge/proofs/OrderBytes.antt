@@ -1,47 +1,26 @@
--- The order bytes, filled in one after the other.
-use Prim.Native.Nat.{ℕ, suc, _+_, _-_, _*_, _%_, _^_, _≤_, _<_}
-use mathlib.Core.Path.{_≡_, refl, sym, ap, ap₂, subst, _∙_}
-use mathlib.Core.Bool.{Bool, true, false, _&&_, _||_, not, cond}
+-- The order bytes that the code puts together from sets are those of the tables.
+use Prim.Native.Nat.{ℕ, suc, _+_, _-_, _%_, _≤_, _<_}
+use mathlib.Core.Path.{_≡_, refl, ap, ap₂, _∙_}
+use mathlib.Core.Bool.{Bool, true, false, cond}
 use mathlib.Core.List.{List}
 use native.Mathlib.Omega.{arith}
-use native.Mathlib.Decide.{ℕ-discrete}
-use lib.Dec.{eqb}
-use lib.ListN.{length, getD, set, length-set, replicate}
+use lib.ListN.{getD}
 use lib.Pow.{pow-mono}
-use lib.Seq.{getD-set-same, getD-set-other}
 use Rattle.image.specs.Stalls.{bits, has}
-use Rattle.image.specs.Layout.{largest, orderPlace, orderAt, nameAt, markAt}
+use Rattle.image.specs.Layout.{largest, orderPlace, orderAt, markAt}
 use Rattle.image.specs.Frame.{Framed}
 use Rattle.image.specs.Row.{neverAt, ownRow}
-use Rattle.image.specs.Encode.{Table, tableOf}
+use Rattle.image.specs.Encode.{tableOf}
 use Rattle.image.specs.declared.Entry.{Entry}
 use Rattle.image.proofs.Bits.{bits-lt}
-use Rattle.image.proofs.OwnRow.{own-row-name}
 use Rattle.merge.specs.declared.Sets.{Sets}
-use Rattle.merge.specs.Known.{isNever}
 use Rattle.merge.specs.Verdict.{verdict}
 use Rattle.merge.specs.Rows.{nameIn}
 use Rattle.merge.specs.Judged.{byteOf, Judged}
-use Rattle.merge.specs.Merged.{latestName, mergedOrder}
-use Rattle.merge.specs.Orders.{isMet, Sorted, orderOf, heardFrom, Ordered}
+use Rattle.merge.specs.Merged.{mergedOrder}
+use Rattle.merge.specs.Orders.{isMet, Sorted, orderOf, heardFrom}
 use Rattle.merge.proofs.Judging.{mine-name}
 use Rattle.merge.proofs.Marks.{order-byte, met-byte, heard-is}
-
-pub ordered-start : (s u : List ℕ) (n p q : ℕ) → Ordered s u n p q 0 (replicate 16 0)
-ordered-start s u n p q = record { long = refl; right = λ r a b. absurd (omega arith) }
-
-pub ordered-next : {s u : List ℕ} {n p q m : ℕ} {out : List ℕ} → Ordered s u n p q m out → m < 16 → (x : ℕ) → x ≡ bits n (mergedOrder n p (tableOf s n) q (tableOf u n) (suc m))
-    → Ordered s u n p q (m + 1) (set out m x)
-ordered-next {s} {u} {n} {p} {q} {m} {out} w l x e =
-    record {
-      long = length-set out m x ∙ w .long;
-      right = λ r a b. elim (ℕ-discrete r (suc m)) [
-        | yes i ↦
-            let j : r - 1 ≡ m = omega arith in
-            ap (λ k. getD (set out m x) k 0) j ∙ getD-set-same out m x 0 (omega (arith, w .long)) ∙ e ∙ ap (λ k. bits n (mergedOrder n p (tableOf s n) q (tableOf u n) k)) (sym i)
-        | no i ↦ getD-set-other out m (r - 1) x 0 (λ j. omega arith) ∙ w .right r a (omega arith)
-      ];
-    }
 
 -- a set of 1 to n fits a byte
 fits-byte : (n : ℕ) (f : ℕ → Bool) → n ≤ largest → bits n f % 256 ≡ bits n f

@@ -1,7 +1,7 @@
 -- What both images hold after a meeting from byte 4 on, said of bytes: for the functions that build and write it. `Merged` says what it means.
 -- s and u are the images of the heads at stalls p and q, v gives the verdict on each stall, and k is the label.
 use Prim.Native.Nat.{ℕ, _+_, _-_, _*_}
-use mathlib.Core.Bool.{Bool, _||_, cond}
+use mathlib.Core.Bool.{_||_, cond}
 use mathlib.Core.List.{List, [], _∷_, _++_}
 use lib.Dec.{eqb}
 use lib.ListN.{getD, take, drop, replicate}
@@ -9,8 +9,8 @@ use Rattle.image.specs.Stalls.{each, bits}
 use Rattle.image.specs.Encode.{tableOf}
 use Rattle.image.specs.Layout.{rowPlace, yieldPlace}
 use Rattle.merge.specs.Merged.{mergedOrder}
-use Rattle.merge.specs.declared.rows.Pair.{Pair}
-use Rattle.merge.specs.declared.rows.Side.{Side}
+use Rattle.merge.specs.declared.pairs.Pair.{Pair}
+use Rattle.merge.specs.declared.pairs.Side.{Side}
 
 -- the image that stall r comes from, and the stall of its head
 abbrev pub sourceOf : List ℕ → List ℕ → (ℕ → ℕ) → ℕ → List ℕ

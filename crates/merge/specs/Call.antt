@@ -2,12 +2,12 @@
 -- Document 01: "Numbers 1 to 6 are tried in order over the whole first image, then the second, then 7, 8, 9. The first that applies stops the reading." and "wants a
 -- meeting as an exported function that returns the label, or 256 plus the refusal number".
 use Prim.Native.Nat.{ℕ, _+_}
-use mathlib.Core.Bool.{Bool, _||_, not, cond}
+use mathlib.Core.Bool.{_||_, not, cond}
 use mathlib.Core.List.{List}
 use lib.Dec.{eqb}
 use lib.ListN.{length}
 use Rattle.image.specs.Check.{checked}
-use Rattle.image.specs.Encode.{Table, encode, tableOf}
+use Rattle.image.specs.Encode.{encode, tableOf}
 use Rattle.image.specs.declared.Header.{Header}
 use Rattle.image.specs.declared.Checked.{Checked}
 use Rattle.image.specs.declared.Checked.the-variants.{Good, Refused}

@@ -1,7 +1,6 @@
 -- Document 01's examples of meetings as calls, by evaluation.
-use Prim.Native.Nat.{ℕ}
 use mathlib.Core.Path.{_≡_, refl}
-use mathlib.Core.List.{List, [], _∷_}
+use mathlib.Core.List.{[], _∷_}
 use Rattle.image.specs.Stalls.{some, each, bits, has}
 use Rattle.image.specs.Layout.{markAt, nameFrom, nameAt, heardAt}
 use Rattle.image.specs.Fresh.{freshImage}

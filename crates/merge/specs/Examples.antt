@@ -1,14 +1,13 @@
 -- Document 01's meetings to try, by evaluation on images.
 use Prim.Native.Nat.{ℕ, zero, suc}
 use mathlib.Core.Path.{_≡_, refl}
-use mathlib.Core.Bool.{Bool, true, cond}
+use mathlib.Core.Bool.{true}
 use mathlib.Core.List.{List, [], _∷_, _++_}
-use lib.Dec.{eqb}
 use lib.ListN.{getD, set, replicate}
 use Rattle.image.specs.Stalls.{some, each, bits, has}
-use Rattle.image.specs.Layout.{currentAt, markAt, nameFrom, nameAt}
+use Rattle.image.specs.Layout.{markAt, nameFrom, nameAt}
 use Rattle.image.specs.Fresh.{freshImage}
-use Rattle.image.specs.Encode.{Table, encode, tableOf}
+use Rattle.image.specs.Encode.{encode, tableOf}
 use Rattle.merge.specs.Known.{common, known}
 use Rattle.merge.specs.Verdict.{verdict, undecided}
 use Rattle.merge.specs.Label.{labelUsed, lowestFrom, newLabel}

@@ -1,16 +1,15 @@
 -- The verdicts as the code holds them: eight bytes, of which those past n are not looked at.
-use Prim.Native.Nat.{ℕ, _-_, _≤_}
-use mathlib.Core.Path.{_≡_}
+use Prim.Native.Nat.{ℕ, _-_}
 use mathlib.Core.List.{List}
-use lib.ListN.{length, getD}
+use lib.ListN.{getD}
 use Rattle.image.specs.Encode.{tableOf}
 use Rattle.merge.specs.Verdict.{verdict}
+use Rattle.merge.specs.ByStall.{ByStall}
 
 -- the verdict byte of stall r
 abbrev pub byteOf : List ℕ → ℕ → ℕ
 byteOf out r = getD out (r - 1) 0
 
 -- the verdicts on the first m stalls when images s and u meet
-pub record Judged (s u : List ℕ) (n p q m : ℕ) (out : List ℕ) : Type 0 where
-  pub long : length out ≡ 8
-  pub right : (r : ℕ) → 1 ≤ r → r ≤ m → byteOf out r ≡ verdict n p (tableOf s n) q (tableOf u n) r
+abbrev pub Judged : List ℕ → List ℕ → ℕ → ℕ → ℕ → ℕ → List ℕ → Type 0
+Judged s u n p q m = ByStall 0 8 m (verdict n p (tableOf s n) q (tableOf u n))

@@ -2,16 +2,12 @@
 -- Document 01: "All names compared are from own rows. The first's latest of r is *known* to the second if it is none, or if some column s of the first's own row
 -- names a meeting that the second's own row names too, in whatever column, and the first has order mark (r, s)."
 use Prim.Native.Nat.{ℕ}
-use mathlib.Core.Bool.{Bool, true, false, _&&_, _||_}
+use mathlib.Core.Bool.{Bool, false, _&&_, _||_}
 use lib.Dec.{eqb}
 use Rattle.image.specs.Stalls.{some}
-use Rattle.image.specs.Encode.{Table}
+use Rattle.image.specs.Row.{isNever}
 use Rattle.image.specs.declared.Name.{Name}
 use Rattle.image.specs.declared.Name.the-variants.{Never, With}
-
-abbrev pub isNever : Name → Bool
-isNever Never = true
-isNever (With m) = false
 
 -- "In the column of stall r, partner b and label k name the meeting of r and b with label k; column b, partner r, label k names the same one."
 abbrev pub sameMeeting : ℕ → Name → ℕ → Name → Bool

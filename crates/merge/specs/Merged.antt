@@ -3,16 +3,15 @@
 -- the first where the verdict is 0. The two that met get the new name and their current yields; their two rows are the new list of latests. Marks: every heard stall
 -- has one to each of the two that met; these have none to other stalls; (r, s) between others is the first's if the first supplied or shared both, else the second's
 -- if it did, else not set. Current yields and stalls stay."
-use Prim.Native.Nat.{ℕ, zero, suc}
+use Prim.Native.Nat.{ℕ}
 use mathlib.Core.Bool.{Bool, _&&_, _||_, not, cond}
 use mathlib.Core.List.{List, [], _∷_}
 use lib.Dec.{eqb}
 use Rattle.image.specs.Stalls.{each}
 use Rattle.image.specs.Encode.{Table}
-use Rattle.image.specs.declared.Meet.{Meet}
+use Rattle.image.specs.Row.{isNever}
 use Rattle.image.specs.declared.Name.{Name}
 use Rattle.image.specs.declared.Name.the-variants.{With}
-use Rattle.merge.specs.Known.{isNever}
 use Rattle.merge.specs.Verdict.{verdict}
 use Rattle.merge.specs.Label.{newLabel}
 

@@ -1,17 +1,17 @@
 -- Sets of stalls that the order marks are put together from, for the functions that do it. `Merged` says what the marks are.
 -- v gives the verdict on each stall.
-use Prim.Native.Nat.{ℕ, _-_, _≤_}
+use Prim.Native.Nat.{ℕ}
 use mathlib.Core.Path.{_≡_}
 use mathlib.Core.Bool.{Bool, _&&_, _||_, not, cond}
 use lib.Bits.{bitAnd, bitOr}
 use mathlib.Core.List.{List}
 use lib.Dec.{eqb}
-use lib.ListN.{length, getD}
 use Rattle.image.specs.Stalls.{bits}
 use Rattle.image.specs.Encode.{tableOf}
+use Rattle.image.specs.Row.{isNever}
 use Rattle.image.specs.declared.Name.{Name}
-use Rattle.merge.specs.Known.{isNever}
 use Rattle.merge.specs.Merged.{mergedOrder}
+use Rattle.merge.specs.ByStall.{ByStall}
 use Rattle.merge.specs.declared.Sets.{Sets}
 
 -- s is one of the two that met
@@ -36,6 +36,5 @@ abbrev pub heardFrom : ℕ → Name → Name → Bool
 heardFrom v x y = cond (eqb v 2) (not (isNever y)) (not (isNever x))
 
 -- the order bytes of the first m stalls after images s and u met
-pub record Ordered (s u : List ℕ) (n p q m : ℕ) (out : List ℕ) : Type 0 where
-  pub long : length out ≡ 16
-  pub right : (r : ℕ) → 1 ≤ r → r ≤ m → getD out (r - 1) 0 ≡ bits n (mergedOrder n p (tableOf s n) q (tableOf u n) r)
+abbrev pub Ordered : List ℕ → List ℕ → ℕ → ℕ → ℕ → ℕ → List ℕ → Type 0
+Ordered s u n p q m = ByStall 0 16 m (λ r. bits n (mergedOrder n p (tableOf s n) q (tableOf u n) r))

@@ -8,8 +8,8 @@ ghost use lib.ListN.{length};
 ghost use Rattle.image.specs.Stalls.{some, bits};
 ghost use Rattle.image.specs.Layout.{largest};
 ghost use Rattle.image.specs.Frame.{Framed};
-ghost use Rattle.image.specs.Row.{ownRow};
-ghost use Rattle.merge.specs.Known.{isNever, sameMeeting, partnerIn, common};
+ghost use Rattle.image.specs.Row.{isNever, ownRow};
+ghost use Rattle.merge.specs.Known.{sameMeeting, partnerIn, common};
 ghost use Rattle.merge.specs.Verdict.{sameName, judge};
 ghost use Rattle.merge.specs.Rows.{nameIn, lookIn};
 ghost use Rattle.merge.specs.Judged.{byteOf, Judged};
@@ -18,16 +18,8 @@ use image::Name;
 use image::bytes::wide;
 use image::marks::pick;
 use image::marks::widen;
+use image::rows::is_never;
 use image::rows::own_row;
-
-pub(crate) fn is_never(x: Name) -> bool
-    ensures { λ r. ⌜ r ≡ isNever x ⌝ }
-{
-    match x {
-        Name::Never => true,
-        Name::With(_) => false,
-    }
-}
 
 // Two names, read with their columns, name the same meeting.
 fn same_meeting(c: u8, x: Name, d: u8, y: Name) -> bool

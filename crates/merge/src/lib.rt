@@ -1,8 +1,9 @@
-// From two accepted images to what both hold after a meeting, by value.
+// A meeting of two images: what is known, the verdicts, the label, and what both hold afterwards, built by value and then written.
 pub mod known;
 pub mod label;
 pub mod meeting;
 pub mod orders;
+pub mod pairs;
 pub mod rows;
 pub mod write;
 pub mod yields;

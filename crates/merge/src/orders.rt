@@ -10,11 +10,11 @@ ghost use Rattle.image.specs.Row.{ownRow};
 ghost use Rattle.merge.specs.Judged.{byteOf, Judged};
 ghost use Rattle.merge.specs.Orders.{Sorted, orderOf, heardFrom, Ordered};
 use crate::Sets;
-use crate::known::is_never;
 use image::Entry;
 use image::bytes::wide;
 use image::marks::pick;
 use image::marks::widen;
+use image::rows::is_never;
 use image::rows::own_row;
 
 // The stalls by who has them.

@@ -8,7 +8,10 @@ ghost use lib.ListN.{length, take, drop, set, getD};
 ghost use Rattle.image.specs.Layout.{largest};
 ghost use Rattle.image.specs.Frame.{Framed};
 ghost use Rattle.image.specs.Stalls.{each};
-ghost use Rattle.merge.specs.Body.{pairAt, pairBytes, padded, verdictIn, mixedPair, latestPair, bodyRow};
+ghost use Rattle.merge.specs.Body.{padded, verdictIn, latestPair, bodyRow};
+use crate::pairs::Pair;
+use crate::pairs::Side;
+use crate::pairs::mixed;
 use image::bytes::row_place;
 use image::bytes::wide;
 
@@ -34,74 +37,6 @@ fn with_row(rows: [[u8; 16]; 8], i: usize, row: [u8; 16]) -> [[u8; 16]; 8]
     let mut next = rows;
     next[i] = row;
     next
-}
-
-// Two bytes of an image: a name, or a yield.
-pub struct Pair {
-    pub high: u8,
-    pub low: u8,
-}
-
-// What one head brings to a row of pairs: its stall, the place in its image where such a row starts, and the pair of its own stall.
-pub struct Side {
-    pub stall: usize,
-    pub at: usize,
-    pub own: Pair,
-}
-
-// The pair at a place.
-pub(crate) fn pair_at(image: &[u8], at: usize) -> Pair
-    requires { ⌜ at + 1 < length (now image) ⌝ }
-    ensures { λ r. ⌜ pairBytes r ≡ pairAt (now (image .entry)) at ⌝ }
-{
-    Pair {
-        high: image[at],
-        low: image[at + 1],
-    }
-}
-
-// The pair of stall c, which stands d bytes behind the start of the row.
-fn pick(first: &[u8], a: Side, second: &[u8], b: Side, c: usize, d: usize, verdict: u8) -> Pair
-    requires { ⌜ (a .at + d + 1 < length (now first)) × (b .at + d + 1 < length (now second)) ⌝ }
-    ensures { λ r.
-        ⌜ pairBytes r
-        ≡ cond (eqb c (a .stall)) (pairBytes (a .own))
-        (cond (eqb c (b .stall)) (pairBytes (b .own))
-        (cond (eqb verdict 2) (pairAt (now (second .entry)) (b .at + d)) (pairAt (now (first .entry)) (a .at + d)))) ⌝ }
-{
-    if c == a.stall {
-        return a.own;
-    }
-    if c == b.stall {
-        return b.own;
-    }
-    if verdict == 2 {
-        return pair_at(second, b.at + d);
-    }
-    pair_at(first, a.at + d)
-}
-
-// The pairs of n stalls, each from the head that the verdict on it points to.
-pub(crate) fn mixed(
-    first: &[u8],
-    a: Side,
-    second: &[u8],
-    b: Side,
-    n: usize,
-    verdicts: [u8; 8],
-) -> [u8; 16]
-    requires { ⌜ (n ≤ largest) × (a .at + n * 2 ≤ length (now first)) × (b .at + n * 2 ≤ length (now second)) × (length verdicts ≡ 8) ⌝ }
-    ensures { λ r. ⌜ r ≡ padded n (each n (mixedPair (now (first .entry)) a (now (second .entry)) b (verdictIn verdicts))) ⌝ }
-{
-    let mut row = [0u8; 16];
-    let mut c = 0usize;
-    while c < n {
-        let x = pick(first, a, second, b, c + 1, c + c, verdicts[c]);
-        row[c + c] = x.high;
-        row[c + c + 1] = x.low;
-        c += 1;
-    }
-    row
 }
 
 // The new list of latests, after the meeting of p and q with label k.

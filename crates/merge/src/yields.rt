@@ -4,9 +4,9 @@ ghost use lib.ListN.{length};
 ghost use Rattle.image.specs.Frame.{Framed};
 ghost use Rattle.image.specs.Stalls.{each};
 ghost use Rattle.merge.specs.Body.{padded, verdictIn, bodyYield};
-use crate::rows::Side;
-use crate::rows::mixed;
-use crate::rows::pair_at;
+use crate::pairs::Side;
+use crate::pairs::mixed;
+use crate::pairs::pair_at;
 use image::bytes::wide;
 
 // The yields of n stalls, with zeros behind them: for the two that met their current ones.

@@ -22,7 +22,7 @@ use Rattle.merge.specs.Label.{newLabel}
 use Rattle.merge.specs.Merged.{merged, verdictBytes}
 use Rattle.merge.specs.Verdict.{undecided}
 use Rattle.merge.specs.Call.{MeetingOutcome, refusedMeeting, acceptedMeeting, metTogether}
-use Rattle.merge.proofs.Pairs.{each-agree}
+use Rattle.merge.proofs.PairRows.{each-agree}
 use Rattle.merge.proofs.NewLabel.{newLabel-limit}
 use Rattle.merge.proofs.AfterLaws.{meeting-short, meeting-called, meeting-accepted}
 use Rattle.parlour.specs.Item.{Item, meeting, counts}

@@ -22,7 +22,7 @@ use Rattle.labels.proofs.Pairs.{partner-first, partner-second}
 use Rattle.image.specs.Encode.{Table}
 use Rattle.image.specs.declared.Name.{Name}
 use Rattle.image.specs.declared.Name.the-variants.{With}
-use Rattle.merge.specs.Known.{isNever}
+use Rattle.image.specs.Row.{isNever}
 use Rattle.merge.specs.Verdict.{verdict}
 use Rattle.merge.specs.Label.{newLabel}
 use Rattle.merge.specs.Merged.{met, firstHas, secondHas, supplier, supplierStall, latestName, mergedNames, mergedYields, orderBetween, mergedOrder, merged}

@@ -13,7 +13,8 @@ use Rattle.labels.specs.Label.{label}
 use Rattle.labels.specs.Name.{partnerOf, nameOf, SamePair, in-order, exchanged, SameName}
 use Rattle.labels.proofs.Unique.{names-agree}
 use Rattle.image.proofs.Passing.{and-holds}
-use Rattle.merge.specs.Known.{isNever, sameMeeting}
+use Rattle.merge.specs.Known.{sameMeeting}
+use Rattle.image.specs.Row.{isNever}
 use Rattle.merge.specs.Verdict.{sameName}
 use Rattle.merge.specs.Label.{isMeeting}
 use Rattle.parlour.specs.Table.{nameIn}

@@ -17,6 +17,7 @@ use Rattle.causality.proofs.Newer.{newer-in}
 use Rattle.causality.proofs.Knowledge as Knowledge
 use Rattle.labels.proofs.Unique.{of-range}
 use Rattle.image.specs.Stalls.{some}
+use Rattle.image.specs.Row.{isNever}
 use Rattle.image.specs.Encode.{Table}
 use Rattle.image.specs.declared.Name.{Name}
 use Rattle.image.proofs.Bits.{Found, at, nowhere, some-found}
@@ -56,7 +57,7 @@ module _ (n : ℕ) (h : History) (joins : (k : ℕ) → Joins n (h k)) (m : ℕ)
   known-means : (p q r : ℕ) → Rule.known n (own p) (marks p r) (own q) r ≡ true → Known h m p q r
   unfolding Rule.known Rule.common
   known-means p q r e =
-      elim (or-holds (Rule.isNever (own p r)) (some n (λ s. marks p r s && some n (λ d. Rule.sameMeeting s (own p s) d (own q d)))) .0 e) [
+      elim (or-holds (isNever (own p r)) (some n (λ s. marks p r s && some n (λ d. Rule.sameMeeting s (own p s) d (own q d)))) .0 e) [
         | inl z ↦ none-heard (eqb-true _ 0 (sym (never-is n h r (latest h m p r)) ∙ z))
         | inr z ↦
             let (s, i, j, w) = some-holds n _ .0 z in
@@ -67,12 +68,12 @@ module _ (n : ℕ) (h : History) (joins : (k : ℕ) → Joins n (h k)) (m : ℕ)
 
   means-known : (p q r : ℕ) → Known h m p q r → Rule.known n (own p) (marks p r) (own q) r ≡ true
   unfolding Rule.known Rule.common
-  means-known p q r (none-heard e) = or-holds (Rule.isNever (own p r)) _ .1 (inl (never-is n h r (latest h m p r) ∙ eq-eqb _ 0 e))
+  means-known p q r (none-heard e) = or-holds (isNever (own p r)) _ .1 (inl (never-is n h r (latest h m p r) ∙ eq-eqb _ 0 e))
   means-known p q r (common s d e o) =
       let l : 0 < latest h m p s = omega (arith, past-pos o, past-le o) in
       let (i, j) = heard-range p s l in
       let (u, v) = heard-range q d (omega (arith, l, e)) in
-      or-holds (Rule.isNever (own p r)) _ .1 (inr
+      or-holds (isNever (own p r)) _ .1 (inr
       (some-holds n (λ s. marks p r s && some n (λ d. Rule.sameMeeting s (own p s) d (own q d))) .1 (
         s,
         i,

@@ -1,5 +1,5 @@
 -- The checks 3 to 6 of an image of the right length.
-use mathlib.Core.Path.{_≡_, sym, _∙_}
+use mathlib.Core.Path.{sym, _∙_}
 use Rattle.image.proofs.Stages.{framed, refused-3, refused-4, refused-5, refused-6, good-body}
 use Rattle.image.proofs.check_body.Statement.{statement}
 use Rattle.image.proofs.check_body.Tie as tie

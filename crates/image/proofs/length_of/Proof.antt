@@ -1,12 +1,10 @@
 -- The table of lengths follows its rule, by one test of the whole table.
-use Prim.Native.Nat.{ℕ, _<_, _≤_}
+use Prim.Native.Nat.{ℕ, _<_}
 use mathlib.Core.Path.{_≡_, refl, sym}
-use mathlib.Core.Bool.{_&&_, cond}
 use mathlib.Core.List.{List, [], _∷_}
 use native.Mathlib.Omega.{arith}
 use borrow.Author.Tests.{le-leb, lt-leb}
 use borrow.Author.Needs.{needs}
-use lib.Dec.{leb}
 use lib.ListN.{getD}
 use Rattle.image.specs.Stalls.{some}
 use Rattle.image.specs.Layout.{lengthOf}

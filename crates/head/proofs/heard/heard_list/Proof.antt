@@ -1,6 +1,4 @@
 -- The heard list of an accepted image into a buffer of the right length.
-use Prim.Native.Nat.{ℕ, _*_, _≤_}
-use mathlib.Core.Path.{_≡_}
 use native.Mathlib.Omega.{arith}
 use borrow.Author.Needs.{needs}
 use Rattle.head.specs.HeardOrder.{heardIn}

@@ -1,10 +1,7 @@
 -- Some of n yields in a row is over the limit.
-use mathlib.Core.Path.{_≡_, refl, ap}
-use Prim.Native.Nat.{ℕ, _+_, _-_, _*_}
-use mathlib.Core.Bool.{not}
+use Prim.Native.Nat.{_+_, _-_, _*_}
 use native.Mathlib.Omega.{arith}
-use lib.Dec.{eqb, ltb}
-use lib.ListN.{getD}
+use lib.Dec.{ltb}
 use Rattle.image.specs.Layout.{word, yieldLimit}
 use Rattle.image.proofs.Search.{Looked, looked-start, looked-next, looked-end}
 use Rattle.image.proofs.bytes.over_yields.Statement.{statement}

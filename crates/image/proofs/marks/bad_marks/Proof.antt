@@ -1,6 +1,5 @@
 -- Check 6.
-use Prim.Native.Nat.{ℕ, _-_, _^_, _≤_}
-use mathlib.Core.Path.{_≡_, _∙_}
+use mathlib.Core.Path.{_∙_}
 use native.Mathlib.Omega.{arith}
 use Rattle.image.proofs.Bits.{bitOf-is}
 use Rattle.image.proofs.marks.bad_marks.Statement.{statement}

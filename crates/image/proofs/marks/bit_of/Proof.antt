@@ -1,11 +1,9 @@
 -- The bit of a stall.
-use mathlib.Core.Path.{_≡_, refl, sym, _∙_}
+use mathlib.Core.Path.{_≡_, sym, _∙_}
 use Prim.Native.Nat.{ℕ, _-_, _*_, _^_, _%_, _≤_, _<_}
-use mathlib.Core.Bool.{_&&_, cond}
 use native.Mathlib.Omega.{arith}
 use borrow.Author.Needs.{needs}
 use borrow.Author.Tests.{le-leb, lt-leb}
-use lib.Dec.{leb}
 use lib.Pow.{shl-exact}
 use Rattle.image.specs.Stalls.{bitOf}
 use Rattle.image.proofs.marks.bit_of.Statement.{statement}

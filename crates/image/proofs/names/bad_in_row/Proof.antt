@@ -1,9 +1,6 @@
 -- Some name of the row that starts at a place is bad by itself.
-use mathlib.Core.Path.{_≡_, refl, ap}
-use Prim.Native.Nat.{ℕ, _+_, _-_, _*_}
-use mathlib.Core.Bool.{not}
+use Prim.Native.Nat.{_+_, _-_, _*_}
 use native.Mathlib.Omega.{arith}
-use lib.Dec.{eqb, ltb}
 use lib.ListN.{getD}
 use Rattle.image.specs.Check.{badName}
 use Rattle.image.proofs.Search.{Looked, looked-start, looked-next, looked-end}

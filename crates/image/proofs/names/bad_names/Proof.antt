@@ -1,5 +1,4 @@
 -- Check 5.
-use mathlib.Core.Path.{_≡_, _∙_}
 use Rattle.image.proofs.names.bad_names.Statement.{statement}
 use Rattle.image.proofs.names.bad_names.Tie as tie
 

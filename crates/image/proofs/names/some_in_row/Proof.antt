@@ -1,9 +1,8 @@
 -- The row that starts at a place has a name.
-use mathlib.Core.Path.{_≡_, refl, ap}
-use Prim.Native.Nat.{ℕ, _+_, _-_, _*_}
+use Prim.Native.Nat.{_+_, _-_, _*_}
 use mathlib.Core.Bool.{not}
 use native.Mathlib.Omega.{arith}
-use lib.Dec.{eqb, ltb}
+use lib.Dec.{eqb}
 use lib.ListN.{getD}
 use Rattle.image.proofs.Search.{Looked, looked-start, looked-next, looked-end}
 use Rattle.image.proofs.names.some_in_row.Statement.{statement}

@@ -1,7 +1,7 @@
 -- The own row of a table, as records.
 use Prim.Native.Nat.{ℕ, _+_, _-_, _*_, _≤_, _<_}
-use mathlib.Core.Path.{_≡_, refl, sym, ap, _∙_}
-use mathlib.Core.List.{List, [], _∷_}
+use mathlib.Core.Path.{_≡_, refl, _∙_}
+use mathlib.Core.List.{List}
 use native.Mathlib.Omega.{arith}
 use native.Mathlib.Nat.{mul-le-mul-left}
 use borrow.Author.Needs.{needs}
@@ -9,7 +9,6 @@ use borrow.Author.Tests.{le-leb, lt-leb}
 use lib.ListN.{length, replicate}
 use Rattle.image.specs.Layout.{largest, rowPlace}
 use Rattle.image.specs.Row.{tabulate, neverAt, entryAt, ownRow}
-use Rattle.image.specs.declared.Entry.{Entry}
 use Rattle.image.proofs.rows.own_row.Statement.{statement}
 use Rattle.image.proofs.rows.own_row.Tie as tie
 

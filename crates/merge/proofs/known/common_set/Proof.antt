@@ -1,6 +1,5 @@
 -- The columns of an own row whose meetings the other own row names too.
-use Prim.Native.Nat.{ℕ, _+_, _-_, _≤_}
-use mathlib.Core.Path.{_≡_}
+use Prim.Native.Nat.{_+_, _-_, _≤_}
 use native.Mathlib.Omega.{arith}
 use Rattle.image.proofs.Gather.{Bit, bit-start, bit-next, bit-le, Gathered, gather-start, gather-next, gather-end, gathered-lt}
 use Rattle.merge.specs.Known.{common}

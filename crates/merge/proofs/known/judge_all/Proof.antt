@@ -1,12 +1,11 @@
 -- The verdicts on all stalls.
-use Prim.Native.Nat.{ℕ, suc, _+_, _-_, _*_, _≤_, _<_}
-use mathlib.Core.Path.{_≡_, refl, sym, ap, subst, _∙_}
+use Prim.Native.Nat.{_+_, _-_, _≤_}
+use mathlib.Core.Path.{_≡_, refl, subst}
 use native.Mathlib.Omega.{arith}
-use lib.ListN.{length}
 use Rattle.image.specs.Layout.{orderPlace}
-use Rattle.image.proofs.OwnRow.{own-row-long}
 use Rattle.merge.specs.Judged.{Judged}
-use Rattle.merge.proofs.Judging.{verdict-next, judged-start, judged-next}
+use Rattle.merge.proofs.ByStalls.{by-stall-start, by-stall-next}
+use Rattle.merge.proofs.Judging.{verdict-next}
 use Rattle.merge.proofs.known.judge_all.Statement.{statement}
 use Rattle.merge.proofs.known.judge_all.Tie as tie
 
@@ -25,7 +24,7 @@ judge-all-spec =
     μ-loop
     (λ c κs. tt)
     (λ c. omega arith)
-    (λ c. (judged-start _ _ _ _ _, omega arith, c .wide .ensures .0, omega (arith, c .wide .ensures .0)))
+    (λ c. (by-stall-start refl, omega arith, c .wide .ensures .0, omega (arith, c .wide .ensures .0)))
     (λ c. omega arith)
     (λ c. omega arith)
     (λ c. omega arith)
@@ -43,7 +42,7 @@ judge-all-spec =
     let a = c .before .before .before .before .before .before .before .before .before .before .before .before .args in
     let h = c .before .before .before .before .before .before .before .before .before .before .before .before .pre in
     let l = c .before .before .before .before .before .before .before .before .loop in (
-      judged-next (l .inv .0) (omega arith) (c .verdict-at .result)
+      by-stall-next (l .inv .0) (omega arith) (c .verdict-at .result)
           (verdict-next (a .first .now) (a .second .now) (a .n) (a .p) (a .q) (h .0 .0) (h .0 .1) (a .t6) (a .t7) (h .1 .0 .0) (h .1 .0 .1)
           (l .r) (l .at) (c .before .before .before .widen .result) (c .before .widen2 .result) (a .set) (a .other) (c .verdict-at .result)
           (omega arith) (l .inv .3) (c .before .before .before .widen .ensures .0) (c .before .widen2 .ensures .0) (h .1 .1 .0) (h .1 .1 .1) (c .verdict-at .ensures)),

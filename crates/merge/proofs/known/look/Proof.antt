@@ -1,6 +1,5 @@
 -- The name in a column of an own row.
-use mathlib.Core.Path.{_≡_, refl, sym, ap, _∙_}
-use native.Mathlib.Omega.{arith}
+use mathlib.Core.Path.{sym}
 use borrow.Author.Needs.{needs}
 use Rattle.merge.proofs.Commons.{look-low, look-high, look-in}
 use Rattle.merge.proofs.known.look.Statement.{statement}

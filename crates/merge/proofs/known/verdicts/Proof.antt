@@ -1,7 +1,5 @@
 -- The verdicts of a meeting.
-use mathlib.Core.Path.{_≡_, ap, _∙_}
-use native.Mathlib.Omega.{arith}
-use borrow.Author.Needs.{needs}
+use mathlib.Core.Path.{ap, _∙_}
 use lib.ListN.{length}
 use Rattle.image.proofs.OwnRow.{own-row-long}
 use Rattle.merge.proofs.known.verdicts.Statement.{statement}

@@ -1,5 +1,4 @@
 -- A stall that did not meet has been heard by the head that it comes from.
-use mathlib.Core.Path.{_≡_, refl}
 use borrow.Author.Tests.{eq-eqb, ne-eqb}
 use Rattle.merge.proofs.orders.is_heard.Statement.{statement}
 use Rattle.merge.proofs.orders.is_heard.Tie as tie

@@ -1,12 +1,11 @@
 -- The order bytes of all stalls.
-use Prim.Native.Nat.{ℕ, suc, _+_, _-_, _*_, _≤_, _<_}
-use mathlib.Core.Path.{_≡_, refl, sym, ap, subst, _∙_}
-use mathlib.Core.Bool.{_||_}
+use Prim.Native.Nat.{_+_, _-_, _≤_}
+use mathlib.Core.Path.{_≡_, refl, subst}
 use native.Mathlib.Omega.{arith}
-use lib.Dec.{eqb}
 use Rattle.image.specs.Layout.{orderPlace}
-use Rattle.merge.specs.Orders.{isMet, Ordered}
-use Rattle.merge.proofs.OrderBytes.{ordered-start, ordered-next, order-next}
+use Rattle.merge.specs.Orders.{Ordered}
+use Rattle.merge.proofs.ByStalls.{by-stall-start, by-stall-next}
+use Rattle.merge.proofs.OrderBytes.{order-next}
 use Rattle.merge.proofs.orders.merged_orders.Statement.{statement}
 use Rattle.merge.proofs.orders.merged_orders.Tie as tie
 
@@ -25,7 +24,7 @@ merged-orders-spec =
     μ-loop
     (λ c κs. tt)
     (λ c. omega arith)
-    (λ c. (ordered-start _ _ _ _ _, omega arith, c .wide .ensures .0, omega (arith, c .wide .ensures .0), omega arith))
+    (λ c. (by-stall-start refl, omega arith, c .wide .ensures .0, omega (arith, c .wide .ensures .0), omega arith))
     (λ c. omega arith)
     (λ c. omega arith)
     (λ c. omega arith)
@@ -45,7 +44,7 @@ merged-orders-spec =
     let a = c .before .before .before .before .before .before .before .before .before .before .before .before .args in
     let h = c .before .before .before .before .before .before .before .before .before .before .before .before .pre in
     let l = c .before .before .before .before .before .before .before .before .loop in (
-      ordered-next (l .inv .0) (omega arith) (c .order-byte .result)
+      by-stall-next (l .inv .0) (omega arith) (c .order-byte .result)
           (order-next (a .first .now) (a .second .now) (a .n) (a .p) (a .q) (h .0 .0) (h .0 .1) (a .t7) (a .t8) (h .1 .0 .0) (h .1 .0 .1) (a .t6) (a .x) (h .1 .1 .0) (h .1 .1 .1)
           (l .r) (l .at) (l .s) (c .before .before .before .widen .result) (c .before .widen2 .result) (c .order-byte .result)
           (omega arith) (l .inv .3) (l .inv .4) (c .before .before .before .widen .ensures .0) (c .before .widen2 .ensures .0) (c .order-byte .ensures)),

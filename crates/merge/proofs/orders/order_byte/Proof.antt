@@ -1,5 +1,4 @@
 -- The order byte of a stall.
-use mathlib.Core.Path.{_≡_, refl}
 use borrow.Author.Needs.{needs}
 use Rattle.merge.proofs.orders.order_byte.Statement.{statement}
 use Rattle.merge.proofs.orders.order_byte.Tie as tie

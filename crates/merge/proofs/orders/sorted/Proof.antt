@@ -1,13 +1,13 @@
 -- The stalls by who has them.
-use Prim.Native.Nat.{ℕ, _+_, _-_, _≤_}
-use mathlib.Core.Path.{_≡_, refl, ap}
-use mathlib.Core.Bool.{_&&_, _||_, not}
+use Prim.Native.Nat.{_+_, _-_, _≤_}
+use mathlib.Core.Path.{refl, ap}
+use mathlib.Core.Bool.{_&&_, not}
 use native.Mathlib.Omega.{arith}
 use lib.Dec.{eqb}
 use lib.ListN.{getD}
 use Rattle.image.proofs.Gather.{Bit, bit-start, bit-next, bit-le, Gathered, gather-start, gather-next, gather-end, gathered-lt}
 use Rattle.merge.specs.Judged.{byteOf}
-use Rattle.merge.specs.Orders.{isMet, Sorted}
+use Rattle.merge.specs.Orders.{isMet}
 use Rattle.merge.proofs.orders.sorted.Statement.{statement}
 use Rattle.merge.proofs.orders.sorted.Tie as tie
 

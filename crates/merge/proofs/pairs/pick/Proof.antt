@@ -1,8 +1,8 @@
 -- The pair of stall c.
 use borrow.Author.Needs.{needs}
 use borrow.Author.Tests.{eq-eqb, ne-eqb}
-use Rattle.merge.proofs.rows.pick.Statement.{statement}
-use Rattle.merge.proofs.rows.pick.Tie as tie
+use Rattle.merge.proofs.pairs.pick.Statement.{statement}
+use Rattle.merge.proofs.pairs.pick.Tie as tie
 
 pub pick-spec : {M : Type 1} → statement M
 pick-spec =

@@ -10,8 +10,8 @@ use lib.ListN.{length, getD, drop, set, replicate, length-append, length-replica
 use lib.Seq.{sets-eq, take-at, drop-append-add}
 use Rattle.image.specs.Stalls.{each}
 use Rattle.image.proofs.Has.{length-each}
-use Rattle.merge.specs.declared.rows.Pair.{Pair}
-use Rattle.merge.specs.declared.rows.Side.{Side}
+use Rattle.merge.specs.declared.pairs.Pair.{Pair}
+use Rattle.merge.specs.declared.pairs.Side.{Side}
 use Rattle.merge.specs.Body.{pairAt, pairBytes, padded, verdictIn, mixedPair}
 use Rattle.merge.proofs.Copies.{drop-zeros}
 

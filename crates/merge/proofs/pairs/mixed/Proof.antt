@@ -6,9 +6,9 @@ use native.Mathlib.Omega.{arith}
 use lib.ListN.{length, length-set}
 use Rattle.image.specs.Stalls.{each}
 use Rattle.merge.specs.Body.{padded, verdictIn, mixedPair}
-use Rattle.merge.proofs.Pairs.{pairs-next, mixed-wide, mixed-at}
-use Rattle.merge.proofs.rows.mixed.Statement.{statement}
-use Rattle.merge.proofs.rows.mixed.Tie as tie
+use Rattle.merge.proofs.PairRows.{pairs-next, mixed-wide, mixed-at}
+use Rattle.merge.proofs.pairs.mixed.Statement.{statement}
+use Rattle.merge.proofs.pairs.mixed.Tie as tie
 
 abbrev Inv-loop : tie.InvT-loop
 Inv-loop first a second b n verdicts row₀ c₀ row c = (c ≤ n) × (length row ≡ 16) × (row ≡ padded c (each c (mixedPair first a second b (verdictIn verdicts))))
