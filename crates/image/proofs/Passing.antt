@@ -1,12 +1,13 @@
 -- What it is to pass a test, as a statement: `simp passing` turns one into the other.
 use Prim.Native.Nat.{ℕ, zero, suc, _≤_}
-use mathlib.Core.Path.{_≡_, refl, sym, ap₂}
+use mathlib.Core.Path.{_≡_, refl, sym, ap₂, _∙_}
 use mathlib.Core.Bool.{Bool, true, false, _&&_, _||_, not, true≢false, false≢true}
-use mathlib.Core.Logic.{_↔_}
+use mathlib.Core.Logic.{_↔_, _⊎_, inl, inr}
 use native.Mathlib.Omega.{arith}
 use borrow.Author.Tests.{le-ltb, ltb-false, le-leb, leb-true, eq-eqb, eqb-true, ne-eqb, eqb-false}
 use lib.Dec.{leb, ltb, eqb}
 use Rattle.image.specs.Stalls.{some}
+use Rattle.image.proofs.Bits.{Found, at, nowhere, some-found}
 use Rattle.image.proofs.Tables.{none-at}
 
 pub or-fails : (a b : Bool) → ((a || b) ≡ false) ↔ ((a ≡ false) × (b ≡ false))
@@ -28,6 +29,18 @@ not-fails false = (sym, sym)
 pub not-holds : (a : Bool) → (not a ≡ true) ↔ (a ≡ false)
 not-holds true = (sym, sym)
 not-holds false = (λ e. refl, λ e. refl)
+
+pub or-holds : (a b : Bool) → ((a || b) ≡ true) ↔ ((a ≡ true) ⊎ (b ≡ true))
+or-holds true b = (λ e. inl refl, λ e. refl)
+or-holds false b = (inr, λ s. elim s [ inl e ↦ absurd (false≢true e) | inr e ↦ e ])
+
+-- what is found is at some place
+pub some-holds : (n : ℕ) (f : ℕ → Bool) → (some n f ≡ true) ↔ ((s : ℕ) × (1 ≤ s) × (s ≤ n) × (f s ≡ true))
+some-holds n f = go (some n f) (some-found n f)
+  where
+    go : (t : Bool) → Found n f t → (t ≡ true) ↔ ((s : ℕ) × (1 ≤ s) × (s ≤ n) × (f s ≡ true))
+    go t (at r k l d) = (λ e. (r, k, l, d), λ w. refl)
+    go t (nowhere g) = (λ e. absurd (true≢false (sym e)), λ w. absurd (true≢false (sym (w .3) ∙ g (w .0) (w .1) (w .2))))
 
 -- what is at no place is not found
 some-none : (n : ℕ) (f : ℕ → Bool) → ((s : ℕ) → 1 ≤ s → s ≤ n → f s ≡ false) → some n f ≡ false

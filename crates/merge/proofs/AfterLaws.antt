@@ -16,9 +16,8 @@ use Rattle.image.specs.Row.{isNever}
 use Rattle.image.specs.declared.Meet.{Meet}
 use Rattle.image.specs.declared.Name.{Name}
 use Rattle.image.specs.declared.Name.the-variants.{Never, With}
-use Rattle.image.proofs.Bits.{Found, at, nowhere, some-found}
 use Rattle.image.proofs.Tables.{none-at}
-use Rattle.image.proofs.Passing.{and-holds, some-fails}
+use Rattle.image.proofs.Passing.{and-holds, some-holds, some-fails}
 use Rattle.image.proofs.Accepted.{Accepted, checked-accepted}
 use Rattle.image.proofs.AcceptedMade.{accepted-made}
 use Rattle.image.proofs.MadeAccepted.{read-name, read-mark, made-accepted}
@@ -264,13 +263,6 @@ meeting-self : (c : ℕ) (x : Name) → (x ≡ Never → ⊥) → sameMeeting c 
 meeting-self c Never h = absurd (h refl)
 meeting-self c (With m) h = rw (eq-eqb (m .label) (m .label) refl, eq-eqb c c refl, eq-eqb (m .partner) (m .partner) refl)
 
-some-holds : (n : ℕ) (f : ℕ → Bool) (s : ℕ) → 1 ≤ s → s ≤ n → f s ≡ true → some n f ≡ true
-some-holds n f s i j e = go (some n f) (some-found n f)
-  where
-    go : (t : Bool) → Found n f t → t ≡ true
-    go t (at r k l d) = refl
-    go t (nowhere g) = absurd (true≢false (sym e ∙ g s i j))
-
 -- a latest that both have, with its own mark, is known
 known-shared : (n : ℕ) (mine theirs : ℕ → Name) (marks : ℕ → Bool) (r : ℕ) → 1 ≤ r → r ≤ n → mine r ≡ theirs r → ((mine r ≡ Never → ⊥) → marks r ≡ true)
     → known n mine marks theirs r ≡ true
@@ -281,9 +273,13 @@ known-shared n mine theirs marks r i j same marked = go (isNever (mine r)) refl
     go true e = refl
     go false e =
         let heard = never-not (mine r) (ap not e) in
-        let both : common n mine theirs r ≡ true = some-holds n (λ d. sameMeeting r (mine r) d (theirs d)) r i j
-        (subst (λ y. sameMeeting r (mine r) r y ≡ true) same (meeting-self r (mine r) heard)) in
-        some-holds n (λ s. marks s && common n mine theirs s) r i j (and-holds (marks r) (common n mine theirs r) .1 (marked heard, both))
+        let both : common n mine theirs r ≡ true = some-holds n (λ d. sameMeeting r (mine r) d (theirs d)) .1 (
+          r,
+          i,
+          j,
+          subst (λ y. sameMeeting r (mine r) r y ≡ true) same (meeting-self r (mine r) heard),
+        ) in
+        some-holds n (λ s. marks s && common n mine theirs s) .1 (r, i, j, and-holds (marks r) (common n mine theirs r) .1 (marked heard, both))
 
 module _ (n p : ℕ) (a : Table) (q : ℕ) (b : Table) where
   pub met-first : met n p a q b p ≡ true

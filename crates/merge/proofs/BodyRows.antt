@@ -10,7 +10,8 @@ use lib.Dec.{eqb}
 use lib.ListN.{length, getD, take, drop}
 use Rattle.image.specs.Stalls.{each}
 use Rattle.image.specs.Frame.{Framed}
-use Rattle.merge.specs.Body.{padded, verdictIn, latestPair, bodyRow}
+use Rattle.merge.specs.Judged.{verdictIn}
+use Rattle.merge.specs.Body.{padded, latestPair, bodyRow}
 
 -- the row behind c others lies within the image
 pub row-behind : {s : List ℕ} {n own : ℕ} (at m c : ℕ) → Framed s n own → m ≡ n → at ≡ 4 + c * (n + n) → c < m → at + m * 2 ≤ length s

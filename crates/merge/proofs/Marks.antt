@@ -16,8 +16,8 @@ use Rattle.image.specs.declared.Name.the-variants.{With}
 use Rattle.merge.specs.Label.{newLabel}
 use Rattle.merge.specs.declared.Sets.{Sets}
 use Rattle.merge.specs.Verdict.{verdict}
-use Rattle.merge.specs.Merged.{supplier, supplierStall, latestName, mergedOrder}
-use Rattle.merge.specs.Orders.{isMet, Sorted, orderOf, heardFrom}
+use Rattle.merge.specs.Merged.{isMet, supplier, supplierStall, latestName, mergedOrder}
+use Rattle.merge.specs.Orders.{Sorted, orderOf, heardFrom}
 
 -- The marks of r, stall by stall: m says that s met, f and g whether the verdict on r is 2 and 1, h and k the same of s, a and b whether the first and the second have
 -- the mark, and d whether r was heard

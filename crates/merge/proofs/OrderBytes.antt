@@ -16,9 +16,9 @@ use Rattle.image.proofs.Bits.{bits-lt}
 use Rattle.merge.specs.declared.Sets.{Sets}
 use Rattle.merge.specs.Verdict.{verdict}
 use Rattle.merge.specs.Rows.{nameIn}
-use Rattle.merge.specs.Judged.{byteOf, Judged}
-use Rattle.merge.specs.Merged.{mergedOrder}
-use Rattle.merge.specs.Orders.{isMet, Sorted, orderOf, heardFrom}
+use Rattle.merge.specs.Judged.{verdictIn, Judged}
+use Rattle.merge.specs.Merged.{isMet, mergedOrder}
+use Rattle.merge.specs.Orders.{Sorted, orderOf, heardFrom}
 use Rattle.merge.proofs.Judging.{mine-name}
 use Rattle.merge.proofs.Marks.{order-byte, met-byte, heard-is}
 
@@ -29,14 +29,14 @@ fits-byte n f l =
     omega arith
 
 module _ (s u : List ℕ) (n p q : ℕ) (f : Framed s n p) (g : Framed u n q) (mine theirs : List Entry) (e : mine ≡ ownRow s n p) (i : theirs ≡ ownRow u n q)
-    (verdicts : List ℕ) (x : Sets) (j : Judged s u n p q n verdicts) (w : Sorted n p q (byteOf verdicts) n x) where
+    (verdicts : List ℕ) (x : Sets) (j : Judged s u n p q n verdicts) (w : Sorted n p q (verdictIn verdicts) n x) where
   -- by whether the stall met
   by-meeting : (r order other : ℕ) → 1 ≤ r → r ≤ n → order ≡ orderAt s n r → other ≡ orderAt u n r → (m : Bool) → isMet p q r ≡ m
-      → cond m (x .pair) (orderOf x (byteOf verdicts r) order other (heardFrom (byteOf verdicts r) (nameIn mine r) (nameIn theirs r))) ≡ bits n (mergedOrder n p (tableOf s n) q (tableOf u n) r)
+      → cond m (x .pair) (orderOf x (verdictIn verdicts r) order other (heardFrom (verdictIn verdicts r) (nameIn mine r) (nameIn theirs r))) ≡ bits n (mergedOrder n p (tableOf s n) q (tableOf u n) r)
   unfolding tableOf markAt
   by-meeting r order other a b k l true m = w .pair-is ∙ met-byte n p (tableOf s n) q (tableOf u n) r m
   by-meeting r order other a b k l false m =
-      order-byte n p (tableOf s n) q (tableOf u n) (byteOf verdicts) x w (j .right) r a b order other _ m
+      order-byte n p (tableOf s n) q (tableOf u n) (verdictIn verdicts) x w (j .right) r a b order other _ m
       (λ t c d. ap (λ z. has z t) k) (λ t c d. ap (λ z. has z t) l)
       (ap (λ v. heardFrom v (nameIn mine r) (nameIn theirs r)) (j .right r a b)
       ∙ ap₂ (heardFrom (verdict n p (tableOf s n) q (tableOf u n) r)) (mine-name s u n p q f g mine theirs e i r a b) (mine-name u s n q p g f theirs mine i e r a b)

@@ -12,7 +12,8 @@ use Rattle.image.specs.Stalls.{each}
 use Rattle.image.proofs.Has.{length-each}
 use Rattle.merge.specs.declared.pairs.Pair.{Pair}
 use Rattle.merge.specs.declared.pairs.Side.{Side}
-use Rattle.merge.specs.Body.{pairAt, pairBytes, padded, verdictIn, mixedPair}
+use Rattle.merge.specs.Judged.{verdictIn}
+use Rattle.merge.specs.Body.{pairAt, pairBytes, padded, mixedPair}
 use Rattle.merge.proofs.Copies.{drop-zeros}
 
 -- two functions that agree on 1 to n

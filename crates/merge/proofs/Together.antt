@@ -11,23 +11,23 @@ use Rattle.image.proofs.Search.{some-agree}
 use Rattle.image.proofs.Accepted.{Accepted}
 use Rattle.merge.specs.Verdict.{undecided}
 use Rattle.merge.specs.Label.{newLabel}
-use Rattle.merge.specs.Judged.{byteOf, Judged}
-use Rattle.merge.specs.Body.{verdictIn, imageAfter}
+use Rattle.merge.specs.Judged.{verdictIn, Judged}
+use Rattle.merge.specs.Body.{imageAfter}
 use Rattle.merge.specs.Call.{MeetingOutcome, metTogether}
 use Rattle.merge.proofs.AfterMeeting.{first-after, second-after, verdicts-in}
 
 module _ (s u buffer : List ℕ) (n p q : ℕ) (out : List ℕ) (judged : Judged s u n p q n out) where
   -- some verdict byte is 9 exactly if some verdict is
-  nine-is : some n (λ r. eqb (byteOf out r) 9) ≡ undecided n p (tableOf s n) q (tableOf u n)
+  nine-is : some n (λ r. eqb (verdictIn out r) 9) ≡ undecided n p (tableOf s n) q (tableOf u n)
   unfolding undecided
   nine-is = some-agree n _ _ (λ r i j. ap (λ v. eqb v 9) (judged .right r i j))
 
-  pub met-nine : some n (λ r. eqb (byteOf out r) 9) ≡ true
+  pub met-nine : some n (λ r. eqb (verdictIn out r) 9) ≡ true
       → _≡_ {A = MeetingOutcome} (record { answer = 265; first = s; second = u; verdicts = buffer }) (metTogether s u buffer n p q)
   unfolding metTogether
   met-nine e = rw (sym nine-is ∙ e)
 
-  pub met-done : some n (λ r. eqb (byteOf out r) 9) ≡ false → Accepted s n p → Accepted u n q → ((k : ℕ) → getD s k 0 < 256) → ((k : ℕ) → getD u k 0 < 256)
+  pub met-done : some n (λ r. eqb (verdictIn out r) 9) ≡ false → Accepted s n p → Accepted u n q → ((k : ℕ) → getD s k 0 < 256) → ((k : ℕ) → getD u k 0 < 256)
       → length buffer ≡ n → (k : ℕ) (x y v : List ℕ) → k ≡ newLabel n p (tableOf s n) q (tableOf u n)
       → x ≡ imageAfter s s u n p q k (verdictIn out) → y ≡ imageAfter u s u n p q k (verdictIn out) → v ≡ take (length buffer) out
       → _≡_ {A = MeetingOutcome} (record { answer = k; first = x; second = y; verdicts = v }) (metTogether s u buffer n p q)

@@ -48,10 +48,6 @@ padded n l = l ++ replicate (16 - n * 2) 0
 abbrev pub rowIn : List (List ℕ) → ℕ → ℕ → List ℕ
 rowIn rows n r = take (n * 2) (getD rows (r - 1) [])
 
--- the verdict on stall r in an array of verdicts
-abbrev pub verdictIn : List ℕ → ℕ → ℕ
-verdictIn l r = getD l (r - 1) 0
-
 abbrev pub pairBytes : Pair → List ℕ
 pairBytes x = x .high ∷ x .low ∷ []
 

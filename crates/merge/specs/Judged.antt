@@ -7,8 +7,8 @@ use Rattle.merge.specs.Verdict.{verdict}
 use Rattle.merge.specs.ByStall.{ByStall}
 
 -- the verdict byte of stall r
-abbrev pub byteOf : List ℕ → ℕ → ℕ
-byteOf out r = getD out (r - 1) 0
+abbrev pub verdictIn : List ℕ → ℕ → ℕ
+verdictIn out r = getD out (r - 1) 0
 
 -- the verdicts on the first m stalls when images s and u meet
 abbrev pub Judged : List ℕ → List ℕ → ℕ → ℕ → ℕ → ℕ → List ℕ → Type 0

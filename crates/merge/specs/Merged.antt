@@ -15,10 +15,13 @@ use Rattle.image.specs.declared.Name.the-variants.{With}
 use Rattle.merge.specs.Verdict.{verdict}
 use Rattle.merge.specs.Label.{newLabel}
 
+-- r is one of the two that met, p and q
+abbrev pub isMet : ℕ → ℕ → ℕ → Bool
+isMet p q r = eqb r p || eqb r q
+
 module _ (n p : ℕ) (a : Table) (q : ℕ) (b : Table) where
-  -- r is one of the two that met
   abbrev pub met : ℕ → Bool
-  met r = eqb r p || eqb r q
+  met r = isMet p q r
 
   -- the first supplied or shared r; the second did
   abbrev pub firstHas : ℕ → Bool

@@ -10,13 +10,9 @@ use Rattle.image.specs.Stalls.{bits}
 use Rattle.image.specs.Encode.{tableOf}
 use Rattle.image.specs.Row.{isNever}
 use Rattle.image.specs.declared.Name.{Name}
-use Rattle.merge.specs.Merged.{mergedOrder}
+use Rattle.merge.specs.Merged.{isMet, mergedOrder}
 use Rattle.merge.specs.ByStall.{ByStall}
 use Rattle.merge.specs.declared.Sets.{Sets}
-
--- s is one of the two that met
-abbrev pub isMet : ℕ → ℕ → ℕ → Bool
-isMet p q s = eqb s p || eqb s q
 
 -- the two that met; of the others those that the first has, that the second has, and that the second alone has
 pub record Sorted (n p q : ℕ) (v : ℕ → ℕ) (m : ℕ) (x : Sets) : Type 0 where

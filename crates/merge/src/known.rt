@@ -12,7 +12,7 @@ ghost use Rattle.image.specs.Row.{isNever, ownRow};
 ghost use Rattle.merge.specs.Known.{sameMeeting, partnerIn, common};
 ghost use Rattle.merge.specs.Verdict.{sameName, judge};
 ghost use Rattle.merge.specs.Rows.{nameIn, lookIn};
-ghost use Rattle.merge.specs.Judged.{byteOf, Judged};
+ghost use Rattle.merge.specs.Judged.{verdictIn, Judged};
 use image::Entry;
 use image::Name;
 use image::bytes::wide;
@@ -188,7 +188,7 @@ pub(crate) fn verdicts(first: &[u8], second: &[u8], n: u8, p: u8, q: u8) -> [u8;
 // Some verdict is 9.
 pub(crate) fn is_undecided(out: [u8; 8], n: u8) -> bool
     requires { ⌜ (n ≤ largest) × (length out ≡ 8) ⌝ }
-    ensures { λ b. ⌜ b ≡ some n (λ r. eqb (byteOf out r) 9) ⌝ }
+    ensures { λ b. ⌜ b ≡ some n (λ r. eqb (verdictIn out r) 9) ⌝ }
 {
     let m = wide(n);
     let mut found = false;

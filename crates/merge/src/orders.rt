@@ -7,7 +7,7 @@ ghost use lib.ListN.{length};
 ghost use Rattle.image.specs.Layout.{largest};
 ghost use Rattle.image.specs.Frame.{Framed};
 ghost use Rattle.image.specs.Row.{ownRow};
-ghost use Rattle.merge.specs.Judged.{byteOf, Judged};
+ghost use Rattle.merge.specs.Judged.{verdictIn, Judged};
 ghost use Rattle.merge.specs.Orders.{Sorted, orderOf, heardFrom, Ordered};
 use crate::Sets;
 use image::Entry;
@@ -20,7 +20,7 @@ use image::rows::own_row;
 // The stalls by who has them.
 fn sorted(verdicts: [u8; 8], n: u8, p: u8, q: u8) -> Sets
     requires { ⌜ (n ≤ largest) × (length verdicts ≡ 8) ⌝ }
-    ensures { λ r. ⌜ Sorted n p q (byteOf verdicts) n r ⌝ }
+    ensures { λ r. ⌜ Sorted n p q (verdictIn verdicts) n r ⌝ }
 {
     let mut pair = 0u64;
     let mut first = 0u64;
@@ -104,7 +104,7 @@ pub(crate) fn merged_orders(
 ) -> [u8; 16]
     requires { ⌜ Framed (now first) n p × Framed (now second) n q ⌝ }
     requires { ⌜ (mine ≡ ownRow (now first) n p) × (theirs ≡ ownRow (now second) n q) ⌝ }
-    requires { ⌜ Judged (now first) (now second) n p q n verdicts × Sorted n p q (byteOf verdicts) n x ⌝ }
+    requires { ⌜ Judged (now first) (now second) n p q n verdicts × Sorted n p q (verdictIn verdicts) n x ⌝ }
     ensures { λ r. ⌜ Ordered (now (first .entry)) (now (second .entry)) n p q n r ⌝ }
 {
     let mut out = [0u8; 16];

@@ -6,7 +6,8 @@ ghost use lib.Dec.{eqb};
 ghost use lib.ListN.{length};
 ghost use Rattle.image.specs.Layout.{largest};
 ghost use Rattle.image.specs.Stalls.{each};
-ghost use Rattle.merge.specs.Body.{pairAt, pairBytes, padded, verdictIn, mixedPair};
+ghost use Rattle.merge.specs.Judged.{verdictIn};
+ghost use Rattle.merge.specs.Body.{pairAt, pairBytes, padded, mixedPair};
 
 // Two bytes of an image: a name, or a yield.
 pub struct Pair {

@@ -20,6 +20,7 @@ use Rattle.labels.specs.Label.{label}
 use Rattle.labels.specs.Name.{partnerOf}
 use Rattle.labels.proofs.Pairs.{partner-first, partner-second}
 use Rattle.image.specs.Encode.{Table}
+use Rattle.image.proofs.Passing.{or-holds}
 use Rattle.image.specs.declared.Name.{Name}
 use Rattle.image.specs.declared.Name.the-variants.{With}
 use Rattle.image.specs.Row.{isNever}
@@ -27,7 +28,7 @@ use Rattle.merge.specs.Verdict.{verdict}
 use Rattle.merge.specs.Label.{newLabel}
 use Rattle.merge.specs.Merged.{met, firstHas, secondHas, supplier, supplierStall, latestName, mergedNames, mergedYields, orderBetween, mergedOrder, merged}
 use Rattle.parlour.specs.Table.{nameIn}
-use Rattle.parlour.proofs.Names.{or-holds, never-is}
+use Rattle.parlour.proofs.Names.{never-is}
 use Rattle.parlour.proofs.Says.{Says, own-names}
 use Rattle.parlour.proofs.Verdicts.{T-true, verdict-best}
 use Rattle.parlour.proofs.NewLabels.{newLabel-label}

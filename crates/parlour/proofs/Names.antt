@@ -12,16 +12,12 @@ use Rattle.causality.specs.Meetings.{Joins}
 use Rattle.labels.specs.Label.{label}
 use Rattle.labels.specs.Name.{partnerOf, nameOf, SamePair, in-order, exchanged, SameName}
 use Rattle.labels.proofs.Unique.{names-agree}
-use Rattle.image.proofs.Passing.{and-holds}
+use Rattle.image.proofs.Passing.{and-holds, or-holds}
 use Rattle.merge.specs.Known.{sameMeeting}
 use Rattle.image.specs.Row.{isNever}
 use Rattle.merge.specs.Verdict.{sameName}
 use Rattle.merge.specs.Label.{isMeeting}
 use Rattle.parlour.specs.Table.{nameIn}
-
-pub or-holds : (a b : Bool) → ((a || b) ≡ true) ↔ ((a ≡ true) ⊎ (b ≡ true))
-or-holds true b = (λ e. inl refl, λ e. refl)
-or-holds false b = (inr, λ s. elim s [ inl e ↦ absurd (false≢true e) | inr e ↦ e ])
 
 module _ (n : ℕ) (h : History) where
   pub never-is : (r k : ℕ) → isNever (nameIn n h r k) ≡ eqb k 0

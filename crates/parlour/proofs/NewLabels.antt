@@ -17,12 +17,12 @@ use Rattle.labels.specs.Theory.{Names, primary, secondary, Taken}
 use Rattle.labels.proofs.Pairs.{pair-trans, pair-of-test, partner-pair, pair-between, partner-first, partner-second}
 use Rattle.labels.proofs.Rule.{label-free, label-lowest}
 use Rattle.image.specs.Encode.{Table}
+use Rattle.image.proofs.Passing.{or-holds, some-holds}
 use Rattle.merge.specs.Label.{isMeeting, rowHas, labelUsed, newLabel}
 use Rattle.merge.proofs.NewLabel.{newLabel-lowest, newLabel-free}
 use Rattle.parlour.specs.Table.{nameIn}
-use Rattle.parlour.proofs.Names.{or-holds, meeting-is}
+use Rattle.parlour.proofs.Names.{meeting-is}
 use Rattle.parlour.proofs.Says.{Says}
-use Rattle.parlour.proofs.Verdicts.{some-holds}
 
 module _ (n : ℕ) (h : History) (m k : ℕ) where
   abbrev p : ℕ

@@ -20,21 +20,13 @@ use Rattle.image.specs.Stalls.{some}
 use Rattle.image.specs.Row.{isNever}
 use Rattle.image.specs.Encode.{Table}
 use Rattle.image.specs.declared.Name.{Name}
-use Rattle.image.proofs.Bits.{Found, at, nowhere, some-found}
-use Rattle.image.proofs.Passing.{and-holds, some-fails}
+use Rattle.image.proofs.Passing.{and-holds, or-holds, some-holds, some-fails}
 use Rattle.merge.specs.Known as Rule
 use Rattle.merge.specs.Verdict.{sameName, judge, verdict, undecided}
 use Rattle.merge.proofs.Agreeing.{known-agree}
 use Rattle.parlour.specs.Table.{nameIn}
-use Rattle.parlour.proofs.Names.{or-holds, never-is, same-self, same-place}
+use Rattle.parlour.proofs.Names.{never-is, same-self, same-place}
 use Rattle.parlour.proofs.Says.{Says, own-names}
-
-pub some-holds : (n : ℕ) (f : ℕ → Bool) → (some n f ≡ true) ↔ ((s : ℕ) × (1 ≤ s) × (s ≤ n) × (f s ≡ true))
-some-holds n f = go (some n f) (some-found n f)
-  where
-    go : (t : Bool) → Found n f t → (t ≡ true) ↔ ((s : ℕ) × (1 ≤ s) × (s ≤ n) × (f s ≡ true))
-    go t (at r k l d) = (λ e. (r, k, l, d), λ w. refl)
-    go t (nowhere g) = (λ e. absurd (true≢false (sym e)), λ w. absurd (true≢false (sym (w .3) ∙ g (w .0) (w .1) (w .2))))
 
 pub true-T : {b : Bool} → b ≡ true → T b
 true-T e = subst T (sym e) tt

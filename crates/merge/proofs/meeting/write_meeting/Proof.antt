@@ -1,6 +1,6 @@
 -- Both images after a meeting, and its label.
 use borrow.Author.Needs.{needs}
-use Rattle.merge.specs.Body.{verdictIn}
+use Rattle.merge.specs.Judged.{verdictIn}
 use Rattle.merge.proofs.MeetingWritten.{may-write, was-written}
 use Rattle.merge.proofs.meeting.write_meeting.Statement.{statement}
 use Rattle.merge.proofs.meeting.write_meeting.Tie as tie

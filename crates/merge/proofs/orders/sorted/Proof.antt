@@ -6,17 +6,17 @@ use native.Mathlib.Omega.{arith}
 use lib.Dec.{eqb}
 use lib.ListN.{getD}
 use Rattle.image.proofs.Gather.{Bit, bit-start, bit-next, bit-le, Gathered, gather-start, gather-next, gather-end, gathered-lt}
-use Rattle.merge.specs.Judged.{byteOf}
-use Rattle.merge.specs.Orders.{isMet}
+use Rattle.merge.specs.Judged.{verdictIn}
+use Rattle.merge.specs.Merged.{isMet}
 use Rattle.merge.proofs.orders.sorted.Statement.{statement}
 use Rattle.merge.proofs.orders.sorted.Tie as tie
 
 abbrev Inv-loop : tie.InvT-loop
 Inv-loop n p q verdicts pair₀ first₀ second₀ alone₀ one₀ s₀ pair first second alone one s =
     (s ≤ n + 1) × Bit one s × Gathered s pair (isMet p q)
-    × Gathered s first (λ s. not (isMet p q s) && not (eqb (byteOf verdicts s) 2))
-    × Gathered s second (λ s. not (isMet p q s) && not (eqb (byteOf verdicts s) 1))
-    × Gathered s alone (λ s. not (isMet p q s) && eqb (byteOf verdicts s) 2)
+    × Gathered s first (λ s. not (isMet p q s) && not (eqb (verdictIn verdicts s) 2))
+    × Gathered s second (λ s. not (isMet p q s) && not (eqb (verdictIn verdicts s) 1))
+    × Gathered s alone (λ s. not (isMet p q s) && eqb (verdictIn verdicts s) 2)
 
 abbrev μ-loop : tie.MeasureT-loop
 μ-loop n p q verdicts pair₀ first₀ second₀ alone₀ one₀ s₀ pair first second alone one s = n + 1 - s

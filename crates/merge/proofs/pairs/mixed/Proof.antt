@@ -5,7 +5,8 @@ use mathlib.Core.List.{List}
 use native.Mathlib.Omega.{arith}
 use lib.ListN.{length, length-set}
 use Rattle.image.specs.Stalls.{each}
-use Rattle.merge.specs.Body.{padded, verdictIn, mixedPair}
+use Rattle.merge.specs.Judged.{verdictIn}
+use Rattle.merge.specs.Body.{padded, mixedPair}
 use Rattle.merge.proofs.PairRows.{pairs-next, mixed-wide, mixed-at}
 use Rattle.merge.proofs.pairs.mixed.Statement.{statement}
 use Rattle.merge.proofs.pairs.mixed.Tie as tie

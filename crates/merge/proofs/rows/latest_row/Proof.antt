@@ -1,7 +1,7 @@
 -- The new list of latests.
 use mathlib.Core.Path.{refl}
 use native.Mathlib.Omega.{arith}
-use Rattle.merge.specs.Body.{verdictIn}
+use Rattle.merge.specs.Judged.{verdictIn}
 use Rattle.merge.proofs.Mixing.{own-row-fits, mixed-latest}
 use Rattle.merge.proofs.rows.latest_row.Statement.{statement}
 use Rattle.merge.proofs.rows.latest_row.Tie as tie

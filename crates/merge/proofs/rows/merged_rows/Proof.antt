@@ -3,7 +3,8 @@ use Prim.Native.Nat.{_+_, _-_, _*_, _≤_}
 use mathlib.Core.Path.{_≡_, refl}
 use mathlib.Core.List.{[]}
 use native.Mathlib.Omega.{arith}
-use Rattle.merge.specs.Body.{padded, verdictIn, bodyRow}
+use Rattle.merge.specs.Judged.{verdictIn}
+use Rattle.merge.specs.Body.{padded, bodyRow}
 use Rattle.merge.specs.ByStall.{ByStall}
 use Rattle.merge.proofs.ByStalls.{by-stall-start, by-stall-next}
 use Rattle.merge.proofs.BodyRows.{row-behind, row-is}

@@ -1,7 +1,7 @@
 -- The yields of n stalls.
 use native.Mathlib.Omega.{arith}
 use borrow.Author.Needs.{needs}
-use Rattle.merge.specs.Body.{verdictIn}
+use Rattle.merge.specs.Judged.{verdictIn}
 use Rattle.merge.proofs.Mixing.{mixed-yields}
 use Rattle.merge.proofs.yields.merged_yields.Statement.{statement}
 use Rattle.merge.proofs.yields.merged_yields.Tie as tie
