@@ -1,0 +1,98 @@
+// The calls of a head, as a list makes them: each is lent the images as the calls before left them.
+// The images of a parlour stand in one run, 156 bytes a stall.
+use crate::words::fitting;
+use crate::words::get_byte;
+use crate::words::put_byte;
+
+// 9 * 156: stall 0 is unused.
+pub const BYTES: usize = 1404;
+// What stands in bytes that no call has written yet.
+pub const UNWRITTEN: u8 = 238;
+
+fn length(n: u16) -> usize {
+    match n {
+        2 => 18,
+        3 => 31,
+        4 => 48,
+        5 => 69,
+        6 => 94,
+        7 => 123,
+        _ => 156,
+    }
+}
+
+pub fn load(images: &[u8], stall: u16, image: &mut [u8]) {
+    let base = 156 * (stall as usize);
+    let mut i = 0usize;
+    while i < 156 {
+        put_byte(image, i, get_byte(images, base + i));
+        i += 1;
+    }
+}
+
+fn save(image: &[u8; 156], stall: u16, images: &mut [u8]) {
+    let base = 156 * (stall as usize);
+    let mut i = 0usize;
+    while i < 156 {
+        put_byte(images, base + i, image[i]);
+        i += 1;
+    }
+}
+
+fn byte(word: u16) -> u8 {
+    (word % 256) as u8
+}
+
+fn fresh(images: &mut [u8], n: u16, stall: u16) -> u32 {
+    let mut image = [UNWRITTEN; 156];
+    let len = fitting(length(n), &image);
+    let answer = head::wilbryn_fresh(&mut image[..len], byte(n), byte(stall));
+    save(&image, stall, images);
+    answer
+}
+
+// Fresh images for stalls 1 to n. Answers whether all were written.
+pub fn open(images: &mut [u8], n: u16) -> bool {
+    let mut is_open = true;
+    let mut stall = 0u16;
+    while stall < n {
+        stall += 1;
+        is_open = fresh(images, n, stall) == 0 && is_open;
+    }
+    is_open
+}
+
+pub fn milking(images: &mut [u8], n: u16, stall: u16, given: u16) -> u32 {
+    let mut image = [0u8; 156];
+    load(images, stall, &mut image);
+    let len = fitting(length(n), &image);
+    let answer = head::wilbryn_milking(&mut image[..len], given);
+    save(&image, stall, images);
+    answer
+}
+
+// The buffer is the first bytes of a longer run.
+pub fn meeting(
+    images: &mut [u8],
+    n: u16,
+    first: u16,
+    second: u16,
+    room: u16,
+    verdicts: &mut [u8],
+) -> u32 {
+    let mut one = [0u8; 156];
+    let mut two = [0u8; 156];
+    load(images, first, &mut one);
+    load(images, second, &mut two);
+    let one_len = fitting(length(n), &one);
+    let two_len = fitting(length(n), &two);
+    let lent = fitting(room as usize, verdicts);
+    let answer = head::wilbryn_meeting(
+        &mut one[..one_len],
+        &mut two[..two_len],
+        &mut verdicts[..lent],
+    );
+    save(&one, first, images);
+    save(&two, second, images);
+    answer
+}
