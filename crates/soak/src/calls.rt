@@ -1,15 +1,24 @@
 // The calls of a head, as a list makes them: each is lent the images as the calls before left them.
 // The images of a parlour stand in one run, 156 bytes a stall.
+ghost use mathlib.Core.Path.{_≡_};
+ghost use lib.ListN.{length};
 use crate::words::fitting;
 use crate::words::get_byte;
 use crate::words::put_byte;
 
 // 9 * 156: stall 0 is unused.
 pub const BYTES: usize = 1404;
-// What stands in bytes that no call has written yet.
+// What stands in bytes that nothing has written yet.
 pub const UNWRITTEN: u8 = 238;
 
-fn length(n: u16) -> usize {
+// Room for an image. Its contract is what lending it asks.
+pub fn room() -> [u8; 156]
+    ensures { λ r. ⌜ 156 ≡ length r ⌝ }
+{
+    [UNWRITTEN; 156]
+}
+
+fn image_length(n: u16) -> usize {
     match n {
         2 => 18,
         3 => 31,
@@ -44,8 +53,8 @@ fn byte(word: u16) -> u8 {
 }
 
 fn fresh(images: &mut [u8], n: u16, stall: u16) -> u32 {
-    let mut image = [UNWRITTEN; 156];
-    let len = fitting(length(n), &image);
+    let mut image = room();
+    let len = fitting(image_length(n), &image);
     let answer = head::wilbryn_fresh(&mut image[..len], byte(n), byte(stall));
     save(&image, stall, images);
     answer
@@ -63,9 +72,9 @@ pub fn open(images: &mut [u8], n: u16) -> bool {
 }
 
 pub fn milking(images: &mut [u8], n: u16, stall: u16, given: u16) -> u32 {
-    let mut image = [0u8; 156];
+    let mut image = room();
     load(images, stall, &mut image);
-    let len = fitting(length(n), &image);
+    let len = fitting(image_length(n), &image);
     let answer = head::wilbryn_milking(&mut image[..len], given);
     save(&image, stall, images);
     answer
@@ -77,16 +86,16 @@ pub fn meeting(
     n: u16,
     first: u16,
     second: u16,
-    room: u16,
+    buffer: u16,
     verdicts: &mut [u8],
 ) -> u32 {
-    let mut one = [0u8; 156];
-    let mut two = [0u8; 156];
+    let mut one = room();
+    let mut two = room();
     load(images, first, &mut one);
     load(images, second, &mut two);
-    let one_len = fitting(length(n), &one);
-    let two_len = fitting(length(n), &two);
-    let lent = fitting(room as usize, verdicts);
+    let one_len = fitting(image_length(n), &one);
+    let two_len = fitting(image_length(n), &two);
+    let lent = fitting(buffer as usize, verdicts);
     let answer = head::wilbryn_meeting(
         &mut one[..one_len],
         &mut two[..two_len],

@@ -27,8 +27,8 @@ pub fn wanted(history: &mut [u16], n: u16, item: Item) -> Outcome {
         Item::Meeting {
             first,
             second,
-            room,
-        } => history::meeting(history, n, first, second, room, &mut verdicts),
+            buffer,
+        } => history::meeting(history, n, first, second, buffer, &mut verdicts),
     };
     Outcome { answer, verdicts }
 }
@@ -40,15 +40,15 @@ pub fn done(images: &mut [u8], n: u16, item: Item) -> Outcome {
         Item::Meeting {
             first,
             second,
-            room,
-        } => calls::meeting(images, n, first, second, room, &mut verdicts),
+            buffer,
+        } => calls::meeting(images, n, first, second, buffer, &mut verdicts),
     };
     Outcome { answer, verdicts }
 }
 
 fn is_image_right(history: &[u16], images: &[u8], n: u16, head: u16) -> bool {
-    let mut wanted = [calls::UNWRITTEN; 156];
-    let mut image = [0u8; 156];
+    let mut wanted = calls::room();
+    let mut image = calls::room();
     table::put_image(history, n, head, &mut wanted);
     calls::load(images, head, &mut image);
     same(&wanted, &image)

@@ -265,10 +265,10 @@ pub fn meeting(
     n: u16,
     first: u16,
     second: u16,
-    room: u16,
+    buffer: u16,
     verdicts: &mut [u8],
 ) -> u32 {
-    if room != n {
+    if buffer != n {
         return 264;
     }
     let label = new_label(history, n, first, second);

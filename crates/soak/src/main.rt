@@ -45,7 +45,7 @@ fn noted(tally: Tally, item: Item, answer: u32) -> Tally {
         Item::Meeting {
             first: _,
             second: _,
-            room: _,
+            buffer: _,
         } => {
             if answer < 256 {
                 tally.meetings = more(tally.meetings);
@@ -96,7 +96,11 @@ fn run_list(
     let mut tally = tally;
     let before = tally.differences;
     history::open(history);
-    calls::open(images, n);
+    if !calls::open(images, n) {
+        say(b"a fresh table is refused\n");
+        tally.differences = more(before);
+        return tally;
+    }
     let mut left = random::below(random, 480);
     while 0 < left {
         left -= 1;

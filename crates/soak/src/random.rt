@@ -3,8 +3,15 @@ use crate::history;
 use crate::words::after;
 
 pub enum Item {
-    Milking { stall: u16, given: u16 },
-    Meeting { first: u16, second: u16, room: u16 },
+    Milking {
+        stall: u16,
+        given: u16,
+    },
+    Meeting {
+        first: u16,
+        second: u16,
+        buffer: u16,
+    },
 }
 
 struct Pair {
@@ -71,7 +78,7 @@ fn ordered_pair(random: &mut u64, history: &[u16], n: u16, way: u16) -> Pair {
 }
 
 // A buffer of n bytes, now and then of another length.
-fn room(random: &mut u64, n: u16) -> u16 {
+fn buffer_length(random: &mut u64, n: u16) -> u16 {
     if below(random, 10) == 0 {
         below(random, 17)
     } else {
@@ -92,13 +99,13 @@ pub fn next_item(random: &mut u64, history: &[u16], n: u16, way: u16) -> Item {
         Item::Meeting {
             first: pair.first,
             second: pair.second,
-            room: room(random, n),
+            buffer: buffer_length(random, n),
         }
     } else {
         Item::Meeting {
             first: pair.second,
             second: pair.first,
-            room: room(random, n),
+            buffer: buffer_length(random, n),
         }
     }
 }

@@ -35,11 +35,11 @@ fn say_item(item: Item) {
         Item::Meeting {
             first,
             second,
-            room,
+            buffer,
         } => {
             say_number(b"  meeting ", first as u64);
             say_number(b"-", second as u64);
-            say_number(b", buffer ", room as u64);
+            say_number(b", buffer ", buffer as u64);
         }
     }
     say(b"\n");
@@ -68,8 +68,8 @@ fn say_outcome(wanted: Outcome, got: Outcome) {
 }
 
 fn say_image(history: &[u16], images: &[u8], n: u16, head: u16) {
-    let mut wanted = [calls::UNWRITTEN; 156];
-    let mut image = [0u8; 156];
+    let mut wanted = calls::room();
+    let mut image = calls::room();
     table::put_image(history, n, head, &mut wanted);
     calls::load(images, head, &mut image);
     say_number(b"  image of head ", head as u64);
