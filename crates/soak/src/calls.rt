@@ -80,7 +80,18 @@ pub fn milking(images: &mut [u8], n: u16, stall: u16, given: u16) -> u32 {
     answer
 }
 
-// The buffer is the first bytes of a longer run.
+// The call itself. Images and buffer are the first bytes of longer runs.
+fn meet(one: &mut [u8], two: &mut [u8], n: u16, verdicts: &mut [u8], buffer: u16) -> u32 {
+    let one_len = fitting(image_length(n), one);
+    let two_len = fitting(image_length(n), two);
+    let lent = fitting(buffer as usize, verdicts);
+    head::wilbryn_meeting(
+        &mut one[..one_len],
+        &mut two[..two_len],
+        &mut verdicts[..lent],
+    )
+}
+
 pub fn meeting(
     images: &mut [u8],
     n: u16,
@@ -93,14 +104,7 @@ pub fn meeting(
     let mut two = room();
     load(images, first, &mut one);
     load(images, second, &mut two);
-    let one_len = fitting(image_length(n), &one);
-    let two_len = fitting(image_length(n), &two);
-    let lent = fitting(buffer as usize, verdicts);
-    let answer = head::wilbryn_meeting(
-        &mut one[..one_len],
-        &mut two[..two_len],
-        &mut verdicts[..lent],
-    );
+    let answer = meet(&mut one, &mut two, n, verdicts, buffer);
     save(&one, first, images);
     save(&two, second, images);
     answer

@@ -1,6 +1,5 @@
 // Pseudo-random items.
 use crate::history;
-use crate::words::after;
 
 pub enum Item {
     Milking {
@@ -33,6 +32,11 @@ pub fn below(random: &mut u64, n: u16) -> u16 {
     } else {
         (state / 8 % 65536) as u16 % n
     }
+}
+
+// The next stall, round the parlour; from 0 the first.
+fn after(stall: u16, n: u16) -> u16 {
+    if stall < n { stall + 1 } else { 1 }
 }
 
 fn stall(random: &mut u64, n: u16) -> u16 {

@@ -77,7 +77,7 @@ fn say_image(history: &[u16], images: &[u8], n: u16, head: u16) {
     say_hex(b"    got    ", &image);
 }
 
-// Enough to make the list again and to see what went wrong.
+// The item, the meetings that led to it, and what was wanted and got.
 pub fn say_difference(
     history: &[u16],
     images: &[u8],

@@ -69,8 +69,3 @@ pub fn first_difference(one: &[u8], other: &[u8]) -> usize {
 pub fn same(one: &[u8], other: &[u8]) -> bool {
     first_difference(one, other) == one.len()
 }
-
-// The next stall, round the parlour; from 0 the first.
-pub fn after(stall: u16, n: u16) -> u16 {
-    if stall < n { stall + 1 } else { 1 }
-}

@@ -1,8 +1,8 @@
 -- `soak::compare::is_mistaken` is safe and ends: the measure is what is left of the loop.
 use Prim.Native.Nat.{_-_}
+use native.Mathlib.Omega.{arith}
 use Rattle.soak.proofs.compare.is_mistaken.Statement.{statement}
 use Rattle.soak.proofs.compare.is_mistaken.Tie as tie
-use borrow.Author.Needs.{needs}
 
 abbrev Inv-loop : tie.InvT-loop
 Inv-loop history n head place name r₀ r = Unit {0}
@@ -10,41 +10,17 @@ Inv-loop history n head place name r₀ r = Unit {0}
 abbrev μ-loop : tie.MeasureT-loop
 μ-loop history n head place name r₀ r = n - r
 
-loop-holds : tie.Need-loop-holds Inv-loop μ-loop
-loop-holds c = search needs
-
-add-r : tie.Need-add-r Inv-loop μ-loop
-add-r c = search needs
-
-latest-requires : tie.Need-latest-requires Inv-loop μ-loop
-latest-requires c κs = search needs
-
-is-named-requires : tie.Need-is-named-requires Inv-loop μ-loop
-is-named-requires c κs = search needs
-
-returns : tie.Need-returns Inv-loop μ-loop
-returns c = search needs
-
-loop-less : tie.Need-loop-less Inv-loop μ-loop
-loop-less c = search needs
-
-loop-again : tie.Need-loop-again Inv-loop μ-loop
-loop-again c = search needs
-
-returns-2 : tie.Need-returns-2 Inv-loop μ-loop
-returns-2 c = search needs
-
 pub is-mistaken-spec : {M : Type 1} → statement M
 is-mistaken-spec =
     tie.close
     (tie.spec
     Inv-loop
     μ-loop
-    loop-holds
-    add-r
-    latest-requires
-    is-named-requires
-    returns
-    loop-less
-    loop-again
-    returns-2)
+    (λ c. tt)
+    (λ c. omega arith)
+    (λ c κs. tt)
+    (λ c κs. tt)
+    (λ c. tt)
+    (λ c. omega arith)
+    (λ c. tt)
+    (λ c. tt))
