@@ -5,7 +5,7 @@
 #include <stdio.h>
 #include <stdlib.h>
 
-enum { STALLS = 3, REFUSAL_YIELD = 4 };
+enum { STALLS = 3, MOST_DECILITRES = 999, REFUSED_YIELD = 4 };
 
 struct head {
     /* The whole state of a head. It has no pointers, so it can be kept and sent as it is. */
@@ -24,11 +24,12 @@ static void start(struct head *head, uint8_t stall) {
     must(answer == 0, "a fresh table", answer);
 }
 
-/* A meter can misread, so a yield out of range is reported and the one before it stays. */
+/* A meter can misread, so a yield out of range is reported and the one before it stays. The same
+   answer at a yield in range would mean a damaged image. */
 static void milk(struct head *head, uint16_t decilitres) {
     uint32_t answer = wilbryn_milking(head->image, sizeof head->image, decilitres);
     printf("head %d is milked: %u dl", head->image[1], decilitres);
-    if (answer == REFUSAL_YIELD) {
+    if (answer == REFUSED_YIELD && decilitres > MOST_DECILITRES) {
         printf(", which is no yield and changes nothing\n");
         return;
     }
