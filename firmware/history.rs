@@ -3,22 +3,24 @@
 use crate::model::{Name, Table, NONE};
 use std::cmp::Ordering;
 
-/// The verdict on the latests of two heads; none is older than any meeting.
-fn newer<Place: Ord>(first: Place, second: Place) -> u8 {
-    match first.cmp(&second) {
-        Ordering::Greater => 1,
-        Ordering::Less => 2,
-        Ordering::Equal => 0,
-    }
+/// How a history knows what lies in a past.
+#[derive(Clone, Copy)]
+pub enum Pasts {
+    /// Each past is listed, as document 01 defines it.
+    Listed,
+    /// For lists too long for that: the meetings of one stall are a chain, so the newest of each
+    /// stall, an unbounded number, stands for all in a past.
+    Counted,
 }
 
 /// A meeting of the history. It is its place there, counted from 0 among the meetings.
 pub struct Event {
-    pub stalls: [usize; 2],
-    pub label: u8,
+    stalls: [usize; 2],
+    label: u8,
     /// The yields that the two stalls had.
-    pub yields: [u16; 2],
-    /// For each earlier meeting and this one: whether it lies in the past of this one.
+    yields: [u16; 2],
+    /// For each earlier meeting and this one: whether it lies in the past of this one. Empty where
+    /// pasts are counted.
     past: Vec<bool>,
     /// The newest meeting of each stall in the past of this one.
     newest: [Option<usize>; 9],
@@ -32,13 +34,16 @@ impl Event {
 
 pub struct History {
     n: usize,
+    pasts: Pasts,
     events: Vec<Event>,
+    /// The last meeting of each head.
+    last: [Option<usize>; 9],
     current: [u16; 9],
 }
 
 impl History {
-    pub fn new(n: usize) -> History {
-        History { n, events: Vec::new(), current: [0; 9] }
+    pub fn new(n: usize, pasts: Pasts) -> History {
+        History { n, pasts, events: Vec::new(), last: [None; 9], current: [0; 9] }
     }
 
     pub fn milking(&mut self, stall: usize, new: u16) {
@@ -47,12 +52,16 @@ impl History {
 
     /// The newest meeting of r in the past of the head's last meeting.
     pub fn latest(&self, head: usize, r: usize) -> Option<usize> {
-        let last = self.events.iter().rposition(|event| event.has(head))?;
-        self.events[last].newest[r]
+        self.events[self.last[head]?].newest[r]
     }
 
+    /// The verdict on the latests of two heads; none is older than any meeting.
     pub fn verdict(&self, first: usize, second: usize, r: usize) -> u8 {
-        newer(self.latest(first, r), self.latest(second, r))
+        match self.latest(first, r).cmp(&self.latest(second, r)) {
+            Ordering::Greater => 1,
+            Ordering::Less => 2,
+            Ordering::Equal => 0,
+        }
     }
 
     /// The lowest label that no meeting of the two has among their latests and the newest meetings
@@ -75,20 +84,27 @@ impl History {
 
     pub fn meeting(&mut self, first: usize, second: usize) {
         let place = self.events.len();
-        let past = self.past(first, second);
         let mut event = Event {
             stalls: [first, second],
             label: self.label(first, second),
             yields: [self.current[first], self.current[second]],
-            past,
+            past: Vec::new(),
             newest: [None; 9],
         };
+        if let Pasts::Listed = self.pasts {
+            event.past = self.past(first, second);
+        }
         for r in 1..=self.n {
-            let is_of_r = |&place: &usize| event.past[place] && self.events[place].has(r);
-            event.newest[r] =
-                if event.has(r) { Some(place) } else { (0..place).rev().find(is_of_r) };
+            event.newest[r] = match self.pasts {
+                _ if event.has(r) => Some(place),
+                Pasts::Listed => {
+                    (0..place).rev().find(|&at| event.past[at] && self.events[at].has(r))
+                }
+                Pasts::Counted => self.latest(first, r).max(self.latest(second, r)),
+            };
         }
         self.events.push(event);
+        (self.last[first], self.last[second]) = (Some(place), Some(place));
     }
 
     /// The past of a new meeting: itself, and the past of every earlier one that shares a stall.
@@ -101,6 +117,14 @@ impl History {
         }
         past.push(true);
         past
+    }
+
+    /// Meeting a lies in the past of meeting b.
+    fn is_in_past(&self, a: usize, b: usize) -> bool {
+        match self.pasts {
+            Pasts::Listed => self.events[b].past.get(a) == Some(&true),
+            Pasts::Counted => self.events[b].newest[self.events[a].stalls[0]] >= Some(a),
+        }
     }
 
     /// How column r names a meeting of stall r.
@@ -121,7 +145,7 @@ impl History {
             for r in 1..=self.n {
                 table.rows[s][r] = self.name(event.newest[r], r);
                 let latest_r = self.latest(head, r);
-                if latest_r.is_some_and(|place| event.past.get(place) == Some(&true)) {
+                if latest_r.is_some_and(|latest_r| self.is_in_past(latest_r, latest_s)) {
                     table.set_mark(r, s);
                 }
             }
@@ -130,45 +154,5 @@ impl History {
             table.rows[head][r] = self.name(self.latest(head, r), r);
         }
         table
-    }
-}
-
-/// Unbounded counters for lists that are too long for pasts: of each head and stall the place of
-/// the latest in the list, from 1; 0 is none.
-pub struct Counters {
-    pub latest: [[usize; 9]; 9],
-    current: [u16; 9],
-    /// Of each place the two stalls, their yields and the label that was answered.
-    pub events: Vec<([usize; 2], [u16; 2], u8)>,
-}
-
-impl Counters {
-    pub fn new() -> Counters {
-        let none = ([0, 0], [0, 0], 0);
-        Counters { latest: [[0; 9]; 9], current: [0; 9], events: vec![none] }
-    }
-
-    pub fn milking(&mut self, stall: usize, new: u16) {
-        self.current[stall] = new;
-    }
-
-    pub fn verdict(&self, first: usize, second: usize, r: usize) -> u8 {
-        newer(self.latest[first][r], self.latest[second][r])
-    }
-
-    pub fn meeting(&mut self, first: usize, second: usize, label: u8) {
-        let place = self.events.len();
-        let yields = [self.current[first], self.current[second]];
-        self.events.push(([first, second], yields, label));
-        for r in 1..=8 {
-            let newer = self.latest[first][r].max(self.latest[second][r]);
-            let newer = if r == first || r == second { place } else { newer };
-            (self.latest[first][r], self.latest[second][r]) = (newer, newer);
-        }
-    }
-
-    pub fn yield_of(&self, head: usize, r: usize) -> u16 {
-        let (stalls, yields, _) = self.events[self.latest[head][r]];
-        yields[(stalls[1] == r) as usize]
     }
 }

@@ -9,7 +9,7 @@ mod model;
 mod parlour;
 
 use calls::{hex, share_of, Run};
-use history::{Counters, History};
+use history::{History, Pasts};
 use images::Random;
 use model::Table;
 use parlour::{buffer, next_pair, Parlour, Seen, Way, WAYS};
@@ -100,26 +100,48 @@ fn mismatch(random: &mut Random, first: &[u8]) -> Table {
 fn against_history(random: &mut Random, seen: &mut Seen, items: usize) {
     for n in 2..=8 {
         let mut parlour = Parlour::open(random, n, seen);
-        let mut history = History::new(n);
+        let mut history = History::new(n, Pasts::Listed);
         for item in 0..items / 7 {
             if item % 150 == 149 {
                 parlour = Parlour::open(random, n, seen);
-                history = History::new(n);
+                history = History::new(n, Pasts::Listed);
             }
             if random.percent(30) {
                 history_milking(random, seen, &mut parlour, &mut history);
             } else {
-                history_meeting(random, seen, &mut parlour, &mut history);
+                history_meeting(random, seen, "against history", &mut parlour, &mut history);
             }
-            for head in 1..=n {
-                if *parlour.images[head] != history.table(head).to_bytes() {
-                    println!("history: {}", hex(&history.table(head).to_bytes()));
-                    parlour.fail(&format!("image {head} is not what the list leaves"));
-                }
-            }
-            parlour.expect_clear_names(|head, r| history.latest(head, r).unwrap());
+            expect_left(&parlour, &history);
         }
     }
+}
+
+/// Ten years of a parlour of 8 against unbounded counters: each answer, and each byte of each image.
+fn ten_years(random: &mut Random, seen: &mut Seen, meetings: usize) {
+    let mut parlour = Parlour::open(random, 8, seen);
+    let mut history = History::new(8, Pasts::Counted);
+    for age in 0..meetings {
+        if age % 1000 == 0 {
+            parlour.way = random.pick(&WAYS);
+        }
+        while random.percent(40) {
+            history_milking(random, seen, &mut parlour, &mut history);
+        }
+        history_meeting(random, seen, "ten years", &mut parlour, &mut history);
+        expect_left(&parlour, &history);
+    }
+}
+
+/// Every image, and what its names stand for, is what the list leaves.
+fn expect_left(parlour: &Parlour, history: &History) {
+    for head in 1..=parlour.n {
+        let wanted = history.table(head).to_bytes();
+        if *parlour.images[head] != wanted {
+            println!("history: {}", hex(&wanted));
+            parlour.fail(&format!("image {head} is not what the list leaves"));
+        }
+    }
+    parlour.expect_clear_names(|head, r| history.latest(head, r).unwrap());
 }
 
 fn history_milking(
@@ -141,12 +163,13 @@ fn history_milking(
 fn history_meeting(
     random: &mut Random,
     seen: &mut Seen,
+    kind: &'static str,
     parlour: &mut Parlour,
     history: &mut History,
 ) {
     let (a, b) = parlour.next_pair(random);
     let before = buffer(random, parlour.n, 10);
-    let outcome = parlour.meet(seen, "against history", &before);
+    let outcome = parlour.meet(seen, kind, &before);
     if before.len() != parlour.n {
         if outcome.answer != 256 + 8 {
             parlour.fail("a meeting that does not count is not refused with 8");
@@ -163,47 +186,6 @@ fn history_meeting(
     history.meeting(a, b);
 }
 
-/// Ten years of a parlour of 8 against unbounded counters.
-fn ten_years(random: &mut Random, seen: &mut Seen, meetings: usize) {
-    let mut parlour = Parlour::open(random, 8, seen);
-    let mut counters = Counters::new();
-    for age in 0..meetings {
-        if age % 1000 == 0 {
-            parlour.way = random.pick(&WAYS);
-        }
-        while random.percent(40) {
-            let (stall, new) = (random.stall(8), random.any_yield());
-            if parlour.milk(seen, stall, new) == 0 {
-                counters.milking(stall, new);
-            }
-        }
-        let (a, b) = parlour.next_pair(random);
-        let outcome = parlour.meet(seen, "ten years", &[0xee; 8]);
-        let verdicts: Vec<u8> = (1..=8).map(|r| counters.verdict(a, b, r)).collect();
-        if outcome.answer >= 256 || *outcome.runs[2] != verdicts {
-            println!("counters: {}, answer {}", hex(&verdicts), outcome.answer);
-            parlour.fail("the verdicts are not those of the counters");
-        }
-        counters.meeting(a, b, outcome.answer as u8);
-        for head in [a, b] {
-            expect_counted(&parlour, &counters, head);
-        }
-        parlour.expect_clear_names(|head, r| counters.latest[head][r]);
-    }
-}
-
-/// The own row and the yields of a head's image are those of the places that the counters hold.
-fn expect_counted(parlour: &Parlour, counters: &Counters, head: usize) {
-    let table = parlour.table(head);
-    for r in 1..=8 {
-        let ([a, b], _, label) = counters.events[counters.latest[head][r]];
-        let meeting = (a != 0).then_some((a.min(b), a.max(b), label));
-        if table.named(head, r) != meeting || table.yields[r] != counters.yield_of(head, r) {
-            parlour.fail(&format!("head {head}: the latest of {r} is not that of the counters"));
-        }
-    }
-}
-
 fn main() {
     let mut seen = Seen::default();
     let parts: [(&str, u64, usize, fn(&mut Random, &mut Seen, usize)); 6] = [
@@ -212,7 +194,7 @@ fn main() {
         ("from no list", 0x5eed_0004, 200_000, loose),
         ("damaged or mismatched", 0x5eed_0005, 100_000, damaged),
         ("against history", 0x5eed_0006, 70_000, against_history),
-        ("ten years", 0x5eed_0007, 400_000, ten_years),
+        ("ten years", 0x5eed_0007, 450_000, ten_years),
     ];
     for (kind, seed, steps, part) in parts {
         println!("meetings: {kind}: seed {seed:#x}");
@@ -223,5 +205,8 @@ fn main() {
     seen.counts.require("meetings in all", 0..=9);
     for kind in ["two moments of a list", "rows from no list", "from no list"] {
         seen.counts.require(kind, [0, 9]);
+    }
+    for kind in ["against history", "ten years"] {
+        seen.counts.require(kind, [0, 8]);
     }
 }

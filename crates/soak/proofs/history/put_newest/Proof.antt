@@ -1,0 +1,30 @@
+-- `soak::history::put_newest` is safe and ends: the measure is what is left of the loop. What is lent keeps its length.
+use Prim.Native.Nat.{_-_}
+use mathlib.Core.Path.{_≡_, refl}
+use native.Mathlib.Omega.{arith}
+use borrow.Author.Needs.{needs}
+use lib.ListN.{length}
+use Rattle.soak.proofs.history.put_newest.Statement.{statement}
+use Rattle.soak.proofs.history.put_newest.Tie as tie
+
+abbrev Inv-loop : tie.InvT-loop
+Inv-loop history₀ n place r₀ history r = length history ≡ length history₀
+
+abbrev μ-loop : tie.MeasureT-loop
+μ-loop history₀ n place r₀ history r = n - r
+
+pub put-newest-spec : {M : Type 1} → statement M
+put-newest-spec =
+    tie.close
+    (tie.spec
+    Inv-loop
+    μ-loop
+    (λ c. refl)
+    (λ c. omega arith)
+    (λ c κs. tt)
+    (λ c κs. tt)
+    (λ c κs. tt)
+    (λ c. omega arith)
+    (λ c. search needs)
+    (λ c. search needs)
+    (λ c. tt))

@@ -1,0 +1,111 @@
+// The calls of a head, as a list makes them: each is lent the images as the calls before left them.
+// The images of a parlour stand in one run, 156 bytes a stall.
+ghost use mathlib.Core.Path.{_≡_};
+ghost use lib.ListN.{length};
+use crate::words::fitting;
+use crate::words::get_byte;
+use crate::words::put_byte;
+
+// 9 * 156: stall 0 is unused.
+pub const BYTES: usize = 1404;
+// What stands in bytes that nothing has written yet.
+pub const UNWRITTEN: u8 = 238;
+
+// Room for an image. Its contract is what lending it asks.
+pub fn room() -> [u8; 156]
+    ensures { λ r. ⌜ 156 ≡ length r ⌝ }
+{
+    [UNWRITTEN; 156]
+}
+
+fn image_length(n: u16) -> usize {
+    match n {
+        2 => 18,
+        3 => 31,
+        4 => 48,
+        5 => 69,
+        6 => 94,
+        7 => 123,
+        _ => 156,
+    }
+}
+
+pub fn load(images: &[u8], stall: u16, image: &mut [u8]) {
+    let base = 156 * (stall as usize);
+    let mut i = 0usize;
+    while i < 156 {
+        put_byte(image, i, get_byte(images, base + i));
+        i += 1;
+    }
+}
+
+fn save(image: &[u8; 156], stall: u16, images: &mut [u8]) {
+    let base = 156 * (stall as usize);
+    let mut i = 0usize;
+    while i < 156 {
+        put_byte(images, base + i, image[i]);
+        i += 1;
+    }
+}
+
+fn byte(word: u16) -> u8 {
+    (word % 256) as u8
+}
+
+fn fresh(images: &mut [u8], n: u16, stall: u16) -> u32 {
+    let mut image = room();
+    let len = fitting(image_length(n), &image);
+    let answer = head::wilbryn_fresh(&mut image[..len], byte(n), byte(stall));
+    save(&image, stall, images);
+    answer
+}
+
+// Fresh images for stalls 1 to n. Answers whether all were written.
+pub fn open(images: &mut [u8], n: u16) -> bool {
+    let mut is_open = true;
+    let mut stall = 0u16;
+    while stall < n {
+        stall += 1;
+        is_open = fresh(images, n, stall) == 0 && is_open;
+    }
+    is_open
+}
+
+pub fn milking(images: &mut [u8], n: u16, stall: u16, given: u16) -> u32 {
+    let mut image = room();
+    load(images, stall, &mut image);
+    let len = fitting(image_length(n), &image);
+    let answer = head::wilbryn_milking(&mut image[..len], given);
+    save(&image, stall, images);
+    answer
+}
+
+// The call itself. Images and buffer are the first bytes of longer runs.
+fn meet(one: &mut [u8], two: &mut [u8], n: u16, verdicts: &mut [u8], buffer: u16) -> u32 {
+    let one_len = fitting(image_length(n), one);
+    let two_len = fitting(image_length(n), two);
+    let lent = fitting(buffer as usize, verdicts);
+    head::wilbryn_meeting(
+        &mut one[..one_len],
+        &mut two[..two_len],
+        &mut verdicts[..lent],
+    )
+}
+
+pub fn meeting(
+    images: &mut [u8],
+    n: u16,
+    first: u16,
+    second: u16,
+    buffer: u16,
+    verdicts: &mut [u8],
+) -> u32 {
+    let mut one = room();
+    let mut two = room();
+    load(images, first, &mut one);
+    load(images, second, &mut two);
+    let answer = meet(&mut one, &mut two, n, verdicts, buffer);
+    save(&one, first, images);
+    save(&two, second, images);
+    answer
+}

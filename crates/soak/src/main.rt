@@ -1,0 +1,160 @@
+// Long pseudo-random lists of milkings and meetings for every size of a parlour, through the calls of
+// a head and through a history program written from document 01 alone. Prints for each size how many
+// items there were, how many of them counted or were refused, and how many lists differed.
+mod calls;
+mod compare;
+mod history;
+mod random;
+mod report;
+mod table;
+mod words;
+
+use compare::Difference;
+use random::Item;
+use report::say;
+use report::say_number;
+
+const LISTS: u16 = 300;
+
+// What the lists of one size came to.
+struct Tally {
+    items: u64,
+    milkings: u64,
+    meetings: u64,
+    refused_milkings: u64,
+    refused_meetings: u64,
+    largest_label: u32,
+    differences: u64,
+}
+
+fn more(count: u64) -> u64 {
+    std::num::wrapping_add_u64(count, 1)
+}
+
+fn noted(tally: Tally, item: Item, answer: u32) -> Tally {
+    let mut tally = tally;
+    tally.items = more(tally.items);
+    match item {
+        Item::Milking { stall: _, given: _ } => {
+            if answer == 0 {
+                tally.milkings = more(tally.milkings);
+            } else {
+                tally.refused_milkings = more(tally.refused_milkings);
+            }
+        }
+        Item::Meeting {
+            first: _,
+            second: _,
+            buffer: _,
+        } => {
+            if answer < 256 {
+                tally.meetings = more(tally.meetings);
+                if tally.largest_label < answer {
+                    tally.largest_label = answer;
+                }
+            } else {
+                tally.refused_meetings = more(tally.refused_meetings);
+            }
+        }
+    }
+    tally
+}
+
+// One item both ways. The first difference of a size is printed.
+fn step(
+    history: &mut [u16],
+    images: &mut [u8],
+    random: &mut u64,
+    n: u16,
+    way: u16,
+    tally: Tally,
+) -> Tally {
+    let item = random::next_item(random, history, n, way);
+    let wanted = compare::wanted(history, n, item);
+    let got = compare::done(images, n, item);
+    let difference = compare::compare(history, images, n, wanted, got);
+    let mut tally = noted(tally, item, got.answer);
+    if let Difference::Nothing = difference {
+        return tally;
+    }
+    if tally.differences == 0 {
+        report::say_difference(history, images, n, item, wanted, got, difference);
+    }
+    tally.differences = more(tally.differences);
+    tally
+}
+
+// One list from fresh images. It ends at its first difference, since later ones would only follow.
+fn run_list(
+    history: &mut [u16],
+    images: &mut [u8],
+    random: &mut u64,
+    n: u16,
+    way: u16,
+    tally: Tally,
+) -> Tally {
+    let mut tally = tally;
+    let before = tally.differences;
+    history::open(history);
+    if !calls::open(images, n) {
+        say(b"a fresh table is refused\n");
+        tally.differences = more(before);
+        return tally;
+    }
+    let mut left = random::below(random, 480);
+    while 0 < left {
+        left -= 1;
+        tally = step(history, images, random, n, way, tally);
+        if tally.differences != before {
+            return tally;
+        }
+    }
+    tally
+}
+
+fn run_lists(history: &mut [u16], images: &mut [u8], random: &mut u64, n: u16) -> Tally {
+    let mut tally = Tally {
+        items: 0,
+        milkings: 0,
+        meetings: 0,
+        refused_milkings: 0,
+        refused_meetings: 0,
+        largest_label: 0,
+        differences: 0,
+    };
+    let mut list = 0u16;
+    while list < LISTS {
+        tally = run_list(history, images, random, n, list % 4, tally);
+        list += 1;
+    }
+    tally
+}
+
+fn say_tally(n: u16, tally: Tally) {
+    say_number(b"n = ", n as u64);
+    say_number(b": ", LISTS as u64);
+    say_number(b" lists, ", tally.items);
+    say_number(b" items: ", tally.milkings);
+    say_number(b" milkings, ", tally.meetings);
+    say_number(b" meetings, refused ", tally.refused_milkings);
+    say_number(b" with 4 and ", tally.refused_meetings);
+    say_number(b" with 8; largest label ", tally.largest_label as u64);
+    say_number(b"; ", tally.differences);
+    say(b" differences\n");
+}
+
+fn run_sizes(history: &mut [u16], images: &mut [u8]) {
+    let mut random = 20260701u64;
+    let mut n = 1u16;
+    while n < 8 {
+        n += 1;
+        let tally = run_lists(history, images, &mut random, n);
+        say_tally(n, tally);
+    }
+}
+
+fn main() {
+    let mut history = [0u16; history::WORDS];
+    let mut images = [0u8; calls::BYTES];
+    run_sizes(&mut history, &mut images);
+}

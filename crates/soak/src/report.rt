@@ -1,0 +1,100 @@
+// What the program prints.
+use crate::calls;
+use crate::compare::Difference;
+use crate::compare::Outcome;
+use crate::history;
+use crate::random::Item;
+use crate::table;
+use crate::words::get_byte;
+
+pub fn say(text: &[u8]) {
+    io::write_all(1, text);
+}
+
+pub fn say_number(before: &[u8], number: u64) {
+    say(before);
+    io::print_decimal(1, number);
+}
+
+fn say_hex(before: &[u8], bytes: &[u8]) {
+    say(before);
+    let mut i = 0usize;
+    while i < bytes.len() {
+        io::print_hex(1, get_byte(bytes, i) as u64, 2);
+        i += 1;
+    }
+    say(b"\n");
+}
+
+fn say_item(item: Item) {
+    match item {
+        Item::Milking { stall, given } => {
+            say_number(b"  milking of ", stall as u64);
+            say_number(b", yield ", given as u64);
+        }
+        Item::Meeting {
+            first,
+            second,
+            buffer,
+        } => {
+            say_number(b"  meeting ", first as u64);
+            say_number(b"-", second as u64);
+            say_number(b", buffer ", buffer as u64);
+        }
+    }
+    say(b"\n");
+}
+
+// The meetings of the history, this one included if it counts.
+fn say_meetings(history: &[u16]) {
+    say(b"  meetings of the history:");
+    let last = history::count(history);
+    let mut place = 0u16;
+    while place < last {
+        place += 1;
+        say_number(b" ", history::first_of(history, place) as u64);
+        say_number(b"-", history::second_of(history, place) as u64);
+    }
+    say(b"\n");
+}
+
+fn say_outcome(wanted: Outcome, got: Outcome) {
+    let wanted_verdicts = wanted.verdicts;
+    let verdicts = got.verdicts;
+    say_number(b"  answer wanted ", wanted.answer as u64);
+    say_number(b", got ", got.answer as u64);
+    say_hex(b"\n  buffer wanted ", &wanted_verdicts);
+    say_hex(b"  buffer got    ", &verdicts);
+}
+
+fn say_image(history: &[u16], images: &[u8], n: u16, head: u16) {
+    let mut wanted = calls::room();
+    let mut image = calls::room();
+    table::put_image(history, n, head, &mut wanted);
+    calls::load(images, head, &mut image);
+    say_number(b"  image of head ", head as u64);
+    say_hex(b"\n    wanted ", &wanted);
+    say_hex(b"    got    ", &image);
+}
+
+// The item, the meetings that led to it, and what was wanted and got.
+pub fn say_difference(
+    history: &[u16],
+    images: &[u8],
+    n: u16,
+    item: Item,
+    wanted: Outcome,
+    got: Outcome,
+    difference: Difference,
+) {
+    say_number(b"first difference of n = ", n as u64);
+    say(b"\n");
+    say_item(item);
+    say_meetings(history);
+    say_outcome(wanted, got);
+    match difference {
+        Difference::Image(head) => say_image(history, images, n, head),
+        Difference::Names => say(b"  two own rows have different meetings under one name\n"),
+        _ => {}
+    }
+}

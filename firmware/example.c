@@ -1,0 +1,83 @@
+/* Two heads of a parlour of three over wilbryn.h: each is milked, they meet, and both say what they
+   then hold. Head 3 is out of range, so neither hears of it. */
+#include "wilbryn.h"
+
+#include <stdio.h>
+#include <stdlib.h>
+
+enum { STALLS = 3, MOST_DECILITRES = 999, REFUSED_YIELD = 4 };
+
+struct head {
+    /* The whole state of a head. It has no pointers, so it can be kept and sent as it is. */
+    uint8_t image[WILBRYN_IMAGE_LENGTH(STALLS)];
+};
+
+/* A refusal where none can be given means a wrong length or a damaged image: go no further. */
+static void must(int is_accepted, const char *what, uint32_t answer) {
+    if (is_accepted) return;
+    printf("%s is refused: answer %u\n", what, answer);
+    exit(1);
+}
+
+static void start(struct head *head, uint8_t stall) {
+    uint32_t answer = wilbryn_fresh(head->image, sizeof head->image, STALLS, stall);
+    must(answer == 0, "a fresh table", answer);
+}
+
+/* A meter can misread, so a yield out of range is reported and the one before it stays. The same
+   answer at a yield in range would mean a damaged image. */
+static void milk(struct head *head, uint16_t decilitres) {
+    uint32_t answer = wilbryn_milking(head->image, sizeof head->image, decilitres);
+    printf("head %d is milked: %u dl", head->image[1], decilitres);
+    if (answer == REFUSED_YIELD && decilitres > MOST_DECILITRES) {
+        printf(", which is no yield and changes nothing\n");
+        return;
+    }
+    must(answer == 0, "a milking", answer);
+    printf("\n");
+}
+
+static void meet(struct head *first, struct head *second) {
+    static const char *const whose[] = {"neither", "the first", "the second"};
+    uint8_t verdicts[STALLS];
+    uint32_t answer = wilbryn_meeting(first->image, sizeof first->image, second->image,
+                                      sizeof second->image, verdicts, sizeof verdicts);
+    must(answer < WILBRYN_REFUSED, "a meeting", answer);
+    printf("heads %d and %d meet, label %u\n", first->image[1], second->image[1], answer);
+    for (int i = 0; i < STALLS; i++) {
+        printf("  of stall %d %s has newer news\n", i + 1, whose[verdicts[i]]);
+    }
+}
+
+/* The records come in any order, so they are put by stall before they are shown. */
+static void show(const struct head *head) {
+    uint8_t records[3 * STALLS];
+    int yields[STALLS];
+    uint32_t answer = wilbryn_heard(head->image, sizeof head->image, records, sizeof records);
+    must(answer < WILBRYN_REFUSED, "a heard list", answer);
+    for (int i = 0; i < STALLS; i++) yields[i] = -1;
+    for (const uint8_t *r = records; r < records + 3 * answer; r += 3) {
+        yields[r[0] - 1] = r[1] * 256 + r[2];
+    }
+    printf("head %d has heard of %u stalls\n", head->image[1], answer);
+    for (int i = 0; i < STALLS; i++) {
+        if (yields[i] >= 0) printf("  stall %d gave %d dl\n", i + 1, yields[i]);
+    }
+}
+
+int main(void) {
+    struct head one, two;
+    start(&one, 1);
+    start(&two, 2);
+    milk(&one, 183);
+    milk(&two, 241);
+    milk(&two, 1000);
+    meet(&one, &two);
+    /* What is milked after a meeting the other hears of only at the next one. */
+    milk(&one, 96);
+    show(&one);
+    show(&two);
+    meet(&two, &one);
+    show(&two);
+    return 0;
+}
