@@ -183,7 +183,7 @@ fn answer_shut(state: &mut [u8], frame: Frame, out: &mut [u8]) -> usize
     ensures { λ r. ⌜ Replied (now (state .entry)) (now (out .entry)) false frame r (now (state .exit)) (now (out .exit)) ⌝ }
 {
     match frame {
-        Frame::Bad => reply_byte(out, 10),
+        Frame::Bad => reply_byte(out, 10), // 10 comes before 11.
         Frame::Open(n) => open(state, n, out),
         Frame::Milking(_, _) => reply_byte(out, 11),
         Frame::Meeting(_, _) => reply_byte(out, 11),
