@@ -1,0 +1,9 @@
+-- The lemmas of `line`. What crates above cite is `pub mod`.
+pub mod Hexadecimal
+pub mod Parsing
+pub mod Slots
+pub mod Numbers
+pub mod Replying
+pub mod MeetingLine
+pub mod HeardLine
+pub mod Lines

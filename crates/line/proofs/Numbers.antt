@@ -1,0 +1,93 @@
+-- The numbers that the calls answer, and how long what they leave is.
+use Prim.Native.Nat.{ℕ, _-_, _*_, _≤_, _<_}
+use mathlib.Core.Path.{_≡_, refl, sym, ap, _∙_}
+use mathlib.Core.Bool.{Bool, true, false, _||_, not, cond}
+use mathlib.Core.List.{List, [], _∷_, flatMap}
+use native.Mathlib.Omega.{arith}
+use borrow.Author.Tests.{eqb-true}
+use lib.Dec.{ltb, eqb}
+use lib.ListN.{length, replicate, length-append, length-replicate}
+use Rattle.image.specs.Layout.{largest, yieldLimit}
+use Rattle.image.specs.Encode.{tableOf}
+use Rattle.image.specs.Check.{checked}
+use Rattle.image.specs.declared.Header.{Header}
+use Rattle.image.specs.declared.Checked.{Checked}
+use Rattle.image.specs.declared.Checked.the-variants.{Good, Refused}
+use Rattle.image.proofs.Stages.{refused-le}
+use Rattle.image.proofs.Accepted.{accepted}
+use Rattle.head.specs.Calls.{Outcome, milked, milkingCall}
+use Rattle.head.specs.Heard.{recordOf, HeardList, HeardInto, HeardFrom, HeardCall}
+use Rattle.merge.specs.Verdict.{undecided}
+use Rattle.merge.specs.Call.{MeetingOutcome, refusedMeeting, acceptedMeeting, metTogether, metGood, metChecked, meetingCall}
+use Rattle.merge.proofs.NewLabel.{newLabel-limit}
+
+-- a milking answers a number of 0 to 6
+pub milking-number : (s : List ℕ) (yield : ℕ) → milkingCall s yield .answer ≤ 6
+unfolding milkingCall milked
+milking-number s yield = go (checked s) refl
+  where
+    over : (b : Bool) (u v : Outcome) → u .answer ≤ 6 → v .answer ≤ 6 → cond b u v .answer ≤ 6
+    over true u v p q = p
+    over false u v p q = q
+
+    go : (x : Checked) → checked s ≡ x → milked s yield x .answer ≤ 6
+    go (Good h) e = over (ltb yieldLimit yield) _ _ (omega arith) (omega arith)
+    go (Refused number) e = refused-le s e
+
+pub milking-code : (s : List ℕ) (yield : ℕ) {r : ℕ} {image : List ℕ} → _≡_ {A = Outcome} (record { answer = r; image = image }) (milkingCall s yield) → r ≤ 6
+milking-code s yield e = omega (arith, ap (λ (o : Outcome). o .answer) e, milking-number s yield)
+
+-- a meeting answers its label, or 256 plus a number up to 9
+module _ (s u buffer : List ℕ) where
+  either : (b : Bool) (x y : MeetingOutcome) → x .answer ≤ 265 → y .answer ≤ 265 → cond b x y .answer ≤ 265
+  either true x y p q = p
+  either false x y p q = q
+
+  together-number : (n p q : ℕ) → n ≤ largest → metTogether s u buffer n p q .answer ≤ 265
+  unfolding metTogether
+  together-number n p q l =
+      either (undecided n p (tableOf s n) q (tableOf u n)) (refusedMeeting s u buffer 9) (acceptedMeeting s u buffer n p q)
+      (omega arith)
+      (omega (arith, newLabel-limit n p (tableOf s n) q (tableOf u n)))
+
+  good-number : (h g : Header) → h .n ≤ largest → metGood s u buffer h g .answer ≤ 265
+  unfolding metGood
+  good-number h g l =
+      either (not (eqb (h .n) (g .n)) || eqb (h .stall) (g .stall)) (refusedMeeting s u buffer 7) _ (omega arith)
+      (either (not (eqb (length buffer) (h .n))) (refusedMeeting s u buffer 8) (metTogether s u buffer (h .n) (h .stall) (g .stall)) (omega arith)
+      (together-number (h .n) (h .stall) (g .stall) l))
+
+  pub meeting-number : meetingCall s u buffer .answer ≤ 265
+  unfolding meetingCall metChecked
+  meeting-number = go (checked s) (checked u) refl refl
+    where
+      go : (x y : Checked) → checked s ≡ x → checked u ≡ y → metChecked s u buffer x y .answer ≤ 265
+      go (Refused number) y e f = omega (arith, refused-le s e)
+      go (Good h) (Refused number) e f = omega (arith, refused-le u f)
+      go (Good h) (Good g) e f = good-number h g (accepted s h e .frame .n-to)
+
+  pub meeting-code : {r : ℕ} {first second verdicts : List ℕ}
+      → _≡_ {A = MeetingOutcome} (record { answer = r; first = first; second = second; verdicts = verdicts }) (meetingCall s u buffer) → r ≤ 265
+  meeting-code e = omega (arith, ap (λ (o : MeetingOutcome). o .answer) e, meeting-number)
+
+-- a heard list answers its count, or 256 plus a number up to 8
+length-records : (s : List ℕ) (n : ℕ) (l : List ℕ) → length (flatMap (recordOf s n) l) ≡ 3 * length l
+unfolding flatMap
+length-records s n [] = refl
+length-records s n (a ∷ l) = length-append (recordOf s n a) (flatMap (recordOf s n) l) ∙ omega (arith, length-records s n l)
+
+module _ (s buffer out : List ℕ) (n answer : ℕ) (long : length buffer ≡ 3 * n) (same : length out ≡ length buffer) where
+  count-le : {m own : ℕ} → 3 * n ≡ 3 * m → HeardList s m own answer out → answer ≤ n
+  count-le {m} e w =
+      omega (arith, ap length (w .written), length-append (flatMap (recordOf s m) (w .stalls)) (replicate (3 * m - 3 * answer) 0), length-records s m (w .stalls), length-replicate {A = ℕ} (3 * m - 3 * answer) 0, w .counted)
+
+  pub heard-number : n ≤ largest → HeardCall s buffer answer out → (answer ≤ 264) × (answer < 256 → answer ≤ n)
+  heard-number l w = go (checked s) refl (w .heard)
+    where
+      into : (h : Header) (b : Bool) → eqb (length buffer) (3 * h .n) ≡ b → HeardInto s buffer answer out h b → (answer ≤ 264) × (answer < 256 → answer ≤ n)
+      into h true e v = let k = count-le (sym long ∙ eqb-true (length buffer) (3 * h .n) e) v in (omega arith, λ _. k)
+      into h false e v = (omega (arith, v .0), λ k. absurd (omega (arith, v .0)))
+
+      go : (x : Checked) → checked s ≡ x → HeardFrom s buffer answer out x → (answer ≤ 264) × (answer < 256 → answer ≤ n)
+      go (Good h) e v = into h (eqb (length buffer) (3 * h .n)) refl v
+      go (Refused number) e v = (omega (arith, v .0, refused-le s e), λ k. absurd (omega (arith, v .0)))

@@ -1,0 +1,115 @@
+-- Replies in the buffers of a call.
+use Prim.Native.Nat.{ℕ, _+_, _-_, _*_, _≤_}
+use mathlib.Core.Path.{_≡_, refl, sym, ap, ap₂, subst, _∙_}
+use mathlib.Core.Bool.{Bool, true, false, not}
+use mathlib.Core.List.{List, [], _∷_, _++_, append-assoc}
+use native.Mathlib.Omega.{arith}
+use lib.ListN.{length, take, drop, length-append, length-drop}
+use lib.Seq.{drop-drop, length-take-le}
+use Rattle.image.specs.Layout.{largest, lengthOf}
+use Rattle.image.specs.Check.{badStall}
+use Rattle.image.proofs.Stages.{in-range}
+use Rattle.head.specs.Calls.{Outcome, milkingCall}
+use Rattle.line.specs.Digits.{pairOf, digitsOf}
+use Rattle.line.specs.Parlour.{slotLength, headsOf, isCount, slotPlace, imageOf, withImage, freshState}
+use Rattle.line.specs.Answer.{Reply, refusal, opening, milkedBy, milking, Replies, written, Given, Replied}
+use Rattle.line.specs.declared.frame.Frame.{Frame}
+use Rattle.line.specs.Asked.{Opened, StallOf}
+use Rattle.line.proofs.Hexadecimal.{digits-one, digits-append, length-digits, behind}
+use Rattle.line.proofs.Slots.{length-range}
+
+-- what is written, and more behind it
+pub written-one : (out : List ℕ) (b : ℕ) (x : List ℕ) → x ≡ take 0 out ++ pairOf b ++ drop (0 + 2) out → x ≡ written out (b ∷ [])
+unfolding written
+written-one out b x e = e ∙ ap (λ d. d ++ drop 2 out) (sym (digits-one b))
+
+pub written-more : (out l m : List ℕ) (at count : ℕ) (x y : List ℕ) → at ≡ 2 * length l → count ≡ 2 * length m → x ≡ written out l
+    → y ≡ take at x ++ digitsOf m ++ drop (at + count) x → y ≡ written out (l ++ m)
+unfolding written
+written-more out l m at count x y i j e f =
+    let k : 2 * length l + 2 * length m ≡ 2 * length (l ++ m) = omega (arith, length-append l m) in
+    f
+    ∙ ap₂ (λ p z. take p z ++ digitsOf m ++ drop (p + count) z) i e
+    ∙ ap (λ n. take (2 * length l) (digitsOf l ++ drop (2 * length l) out) ++ digitsOf m ++ drop (2 * length l + n) (digitsOf l ++ drop (2 * length l) out)) j
+    ∙ behind (digitsOf l) out (digitsOf m) (2 * length l) (2 * length m) (length-digits l)
+    ∙ ap₂ (λ p n. p ++ drop n out) (sym (digits-append l m)) k
+
+pub written-byte : (out l : List ℕ) (b at : ℕ) (x y : List ℕ) → at ≡ 2 * length l → x ≡ written out l → y ≡ take at x ++ pairOf b ++ drop (at + 2) x
+    → y ≡ written out (l ++ (b ∷ []))
+written-byte out l b at x y i e f =
+    written-more out l (b ∷ []) at 2 x y i refl e (f ∙ ap (λ d. take at x ++ d ++ drop (at + 2) x) (sym (digits-one b)))
+
+module _ {out out′ state′ : List ℕ} {reply : Reply} {count : ℕ} where
+  pub given-bytes : (bytes : List ℕ) → reply ≡ record { bytes = bytes; state = state′ } → count ≡ 2 * length bytes → out′ ≡ written out bytes → Given out reply count state′ out′
+  given-bytes bytes e k w =
+      record {
+        counted = k ∙ sym (ap (λ (r : Reply). 2 * length (r .bytes)) e);
+        state-is = sym (ap (λ (r : Reply). r .state) e);
+        out-is = w ∙ sym (ap (λ (r : Reply). written out (r .bytes)) e);
+      }
+
+  pub given-same : (other : Reply) → reply ≡ other → Given out other count state′ out′ → Given out reply count state′ out′
+  given-same other e = subst (λ r. Given out r count state′ out′) (sym e)
+
+  pub given-byte : (b : ℕ) → reply ≡ record { bytes = b ∷ []; state = state′ } → (count ≡ 2) × (out′ ≡ written out (b ∷ [])) → Given out reply count state′ out′
+  given-byte b e w = given-bytes (b ∷ []) e (w .0) (w .1)
+
+-- a stall of an open parlour, and its image within the state
+pub stall-of : (n stall : ℕ) → badStall n stall ≡ false → StallOf n stall
+stall-of n stall e = let (a, b) = in-range 1 n stall e in record { from = a; to = b }
+
+module _ (state out : List ℕ) (stall at count : ℕ) (opened : Opened state out) (good : StallOf (headsOf state) stall) (stands : at ≡ slotPlace stall)
+    (long : count ≡ lengthOf (headsOf state)) where
+  pub image-short : count ≤ slotLength
+  image-short = omega (arith, length-range (headsOf state) (opened .from) (opened .to) .1)
+
+  pub image-fits : at + count ≤ length state
+  image-fits = omega (arith, image-short, good .from, good .to, opened .to, opened .long)
+
+  pub the-image : take (at + count - at) (drop at state) ≡ imageOf state stall
+  unfolding imageOf
+  the-image = let e : at + count - at ≡ lengthOf (headsOf state) = omega arith in ap₂ (λ k p. take k (drop p state)) e stands
+
+  pub part-long : length (take (at + count - at) (drop at state)) ≡ count
+  part-long = length-take-le (at + count - at) (drop at state) (omega (arith, length-drop at state, image-fits)) ∙ omega arith
+
+  pub put-image : (image : List ℕ) → length image ≡ count → take at state ++ (image ++ drop (at + count - at) (drop at state)) ≡ withImage state stall image
+  unfolding withImage
+  put-image image e =
+      let k : at + (at + count - at) ≡ slotPlace stall + length image = omega arith in
+      ap (λ r. take at state ++ (image ++ r)) (drop-drop (at + count - at) at state)
+      ∙ sym (append-assoc (take at state) image (drop (at + (at + count - at)) state))
+      ∙ ap₂ (λ p q. take p state ++ image ++ drop q state) stands k
+
+-- one of the replies to a frame
+pub replied : {state out : List ℕ} {opened : Bool} {frame f : Frame} {count : ℕ} {state′ out′ : List ℕ} (reply : Reply) → frame ≡ f → Replies state opened f reply
+    → Given out reply count state′ out′ → Replied state out opened frame count state′ out′
+replied {state} {opened = opened} reply e r g = record { reply = reply; replies = subst (λ x. Replies state opened x reply) (sym e) r; given = g }
+
+pub replied-to : {state out : List ℕ} {opened : Bool} {frame f : Frame} {count : ℕ} {state′ out′ : List ℕ} → frame ≡ f → Replied state out opened f count state′ out′
+    → Replied state out opened frame count state′ out′
+replied-to e r = replied (r .reply) e (r .replies) (r .given)
+
+-- an opening, refused and not
+pub count-range : (n : ℕ) → isCount n ≡ true → (2 ≤ n) × (n ≤ largest)
+count-range n e = in-range 2 largest n (ap not e)
+
+module _ (state : List ℕ) (n : ℕ) where
+  pub opening-bad : isCount n ≡ false → opening state n ≡ refusal state 1
+  unfolding opening
+  opening-bad e = rw e
+
+  pub opening-done : (x : List ℕ) → isCount n ≡ true → x ≡ freshState n → opening state n ≡ record { bytes = 0 ∷ []; state = x }
+  unfolding opening
+  opening-done x e f = rw (e, f)
+
+-- a milking, refused for its stall and not
+module _ (state : List ℕ) (stall yield : ℕ) where
+  pub milking-bad : badStall (headsOf state) stall ≡ true → milking state stall yield ≡ refusal state 3
+  unfolding milking
+  milking-bad e = rw e
+
+  pub milking-done : {r : ℕ} {image : List ℕ} → badStall (headsOf state) stall ≡ false → _≡_ {A = Outcome} (record { answer = r; image = image }) (milkingCall (imageOf state stall) yield)
+      → milking state stall yield ≡ record { bytes = r ∷ []; state = withImage state stall image }
+  unfolding milking
+  milking-done e f = rw e (ap (milkedBy state stall) (sym f))

@@ -1,0 +1,24 @@
+-- The kinds of two bytes.
+use borrow.Author.Tests.{eq-eqb, ne-eqb}
+use Rattle.line.specs.Frame.{kindOfTwo}
+use Rattle.line.proofs.frame.of_two.Statement.{statement}
+use Rattle.line.proofs.frame.of_two.Tie as tie
+
+returns : tie.Need-returns
+unfolding kindOfTwo
+returns c = rw (eq-eqb _ _ (c .if1 .taken))
+
+returns-2 : tie.Need-returns-2
+unfolding kindOfTwo
+returns-2 c = rw (ne-eqb _ _ (c .before .if1 .left), eq-eqb _ _ (c .if2 .taken))
+
+returns-3 : tie.Need-returns-3
+unfolding kindOfTwo
+returns-3 c = rw (ne-eqb _ _ (c .before .before .if1 .left), ne-eqb _ _ (c .before .if2 .left), eq-eqb _ _ (c .if3 .taken))
+
+returns-4 : tie.Need-returns-4
+unfolding kindOfTwo
+returns-4 c = rw (ne-eqb _ _ (c .before .before .if1 .left), ne-eqb _ _ (c .before .if2 .left), ne-eqb _ _ (c .if3 .left))
+
+pub of-two-spec : {M : Type 1} → statement M
+of-two-spec = tie.close (tie.spec returns returns-2 returns-3 returns-4)

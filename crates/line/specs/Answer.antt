@@ -1,0 +1,117 @@
+-- The answer to a line.
+-- Document 01: "An answer is `00`, then for a meeting the label and N verdicts, for `04` the image, for `05` the count and the records alone; or the refusal
+-- number in two hexadecimal digits (ten is `0a`). Order: 10, 11, then 1, 3, 4, 7. An empty line is 10. An opening refused with 1 opens nothing."
+use Prim.Native.Nat.{ℕ, _-_, _*_}
+use mathlib.Core.Path.{_≡_}
+use mathlib.Core.Bool.{Bool, true, false, _&&_, not, cond}
+use mathlib.Core.List.{List, [], _∷_, _++_}
+use lib.Dec.{leb, ltb, eqb}
+use lib.ListN.{length, take, drop, replicate}
+use Rattle.image.specs.Check.{badStall}
+use Rattle.head.specs.Calls.{Outcome, milkingCall}
+use Rattle.head.specs.Heard.{HeardCall}
+use Rattle.merge.specs.Call.{MeetingOutcome, meetingCall}
+use Rattle.line.specs.Digits.{digitsOf}
+use Rattle.line.specs.Frame.{frameOf}
+use Rattle.line.specs.Parlour.{stateLength, headsOf, isCount, isOpen, imageOf, withImage, freshState}
+use Rattle.line.specs.declared.frame.Frame.{Frame}
+use Rattle.line.specs.declared.frame.Frame.the-variants.{Open, Milking, Meeting, Show, Heard, Bad}
+
+-- the bytes of an answer, and the state afterwards
+pub record Reply : Type 0 where
+  pub bytes : List ℕ
+  pub state : List ℕ
+
+module _ (state : List ℕ) where
+  -- "or the refusal number": every byte of the state stays
+  abbrev pub refusal : ℕ → Reply
+  refusal number = record { bytes = number ∷ []; state = state }
+
+  -- "`00`, then" some bytes where a call answers below 256; else it refuses, with 256 plus the number
+  abbrev pub answerBytes : ℕ → List ℕ → List ℕ
+  answerBytes answer more = cond (ltb answer 256) (0 ∷ more) ((answer - 256) ∷ [])
+
+  -- 1: N not 2 to 8
+  unfoldable pub opening : ℕ → Reply
+  opening n = cond (isCount n) (record { bytes = 0 ∷ []; state = freshState n }) (refusal 1)
+
+  -- a milking answers 0, or its refusal: 4, a new yield over 999
+  abbrev pub milkedBy : ℕ → Outcome → Reply
+  milkedBy stall o = record { bytes = o .answer ∷ []; state = withImage state stall (o .image) }
+
+  -- 3: a stall not 1 to N
+  unfoldable pub milking : ℕ → ℕ → Reply
+  milking stall yield = cond (badStall (headsOf state) stall) (refusal 3) (milkedBy stall (milkingCall (imageOf state stall) yield))
+
+  -- "the label and N verdicts"
+  abbrev pub metBy : ℕ → ℕ → MeetingOutcome → Reply
+  metBy p q o =
+      record { bytes = answerBytes (o .answer) (o .answer ∷ o .verdicts); state = withImage (withImage state p (o .first)) q (o .second) }
+
+  unfoldable pub meetingOf : ℕ → ℕ → Reply
+  meetingOf p q = metBy p q (meetingCall (imageOf state p) (imageOf state q) (replicate (headsOf state) 0))
+
+  -- 3 for the first stall, then for the second; 7: one stall twice
+  unfoldable pub meeting : ℕ → ℕ → Reply
+  meeting p q =
+      cond (badStall (headsOf state) p) (refusal 3)
+      (cond (badStall (headsOf state) q) (refusal 3)
+      (cond (eqb p q) (refusal 7)
+      (meetingOf p q)))
+
+  -- "for `04` the image"
+  unfoldable pub showing : ℕ → Reply
+  showing stall = cond (badStall (headsOf state) stall) (refusal 3) (record { bytes = 0 ∷ imageOf state stall; state = state })
+
+  -- "the count and the records alone", in the order that the heard list gives them
+  pub record HeardReply (stall : ℕ) (reply : Reply) : Type 0 where
+    pub count : ℕ
+    pub records : List ℕ
+    pub heard : HeardCall (imageOf state stall) (replicate (3 * headsOf state) 0) count records
+    pub replied : reply ≡ record { bytes = answerBytes count (count ∷ take (3 * count) records); state = state }
+
+  abbrev pub HeardAnswer : ℕ → Reply → Bool → Type 0
+  HeardAnswer stall reply true = reply ≡ refusal 3
+  HeardAnswer stall reply false = HeardReply stall reply
+
+  -- what a frame may be answered with while a parlour is open, and before
+  abbrev pub Replies : Bool → Frame → Reply → Type 0
+  Replies opened Bad reply = reply ≡ refusal 10
+  Replies true (Open n) reply = reply ≡ refusal 11
+  Replies false (Open n) reply = reply ≡ opening n
+  Replies true (Milking stall yield) reply = reply ≡ milking stall yield
+  Replies true (Meeting p q) reply = reply ≡ meeting p q
+  Replies true (Show stall) reply = reply ≡ showing stall
+  Replies true (Heard stall) reply = HeardAnswer stall reply (badStall (headsOf state) stall)
+  Replies false (Milking stall yield) reply = reply ≡ refusal 11
+  Replies false (Meeting p q) reply = reply ≡ refusal 11
+  Replies false (Show stall) reply = reply ≡ refusal 11
+  Replies false (Heard stall) reply = reply ≡ refusal 11
+
+-- some bytes as digits at the start of a buffer, the rest of it as it was
+unfoldable pub written : List ℕ → List ℕ → List ℕ
+written out bytes = digitsOf bytes ++ drop (2 * length bytes) out
+
+-- the longest answer: `00` and an image of 156 bytes
+abbrev pub longestAnswer : ℕ
+longestAnswer = 314
+
+-- a reply in the buffers of a call: how many digits come back, and every byte of the state and of the buffer afterwards
+pub record Given (out : List ℕ) (reply : Reply) (count : ℕ) (state′ out′ : List ℕ) : Type 0 where
+  pub counted : count ≡ 2 * length (reply .bytes)
+  pub state-is : state′ ≡ reply .state
+  pub out-is : out′ ≡ written out (reply .bytes)
+
+-- one of the replies to a frame
+pub record Replied (state out : List ℕ) (opened : Bool) (frame : Frame) (count : ℕ) (state′ out′ : List ℕ) : Type 0 where
+  pub reply : Reply
+  pub replies : Replies state opened frame reply
+  pub given : Given out reply count state′ out′
+
+-- a state of another length, or a buffer too short for the longest answer: 0 digits, and every byte as it was
+abbrev pub AnswerIn : List ℕ → List ℕ → List ℕ → ℕ → List ℕ → List ℕ → Bool → Type 0
+AnswerIn state line out count state′ out′ true = Replied state out (isOpen state) (frameOf line) count state′ out′
+AnswerIn state line out count state′ out′ false = (count ≡ 0) × (state′ ≡ state) × (out′ ≡ out)
+
+pub record AnswerCall (state line out : List ℕ) (count : ℕ) (state′ out′ : List ℕ) : Type 0 where
+  pub answer : AnswerIn state line out count state′ out′ (eqb (length state) stateLength && leb longestAnswer (length out))

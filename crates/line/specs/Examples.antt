@@ -1,0 +1,139 @@
+-- Document 01's listing as lines, its examples for the numbers 10 and 11 and those of the other numbers that a line can draw, by evaluation.
+use Prim.Native.Nat.{ℕ}
+use mathlib.Core.Path.{_≡_, refl}
+use mathlib.Core.Bool.{Bool, true, false}
+use mathlib.Core.List.{List, [], _∷_, _++_, map, flatMap}
+use lib.ListN.{replicate}
+use Rattle.image.specs.Stalls.{some, each, bits, has}
+use Rattle.image.specs.Layout.{markAt, nameFrom, nameAt, heardAt}
+use Rattle.image.specs.Fresh.{freshImage}
+use Rattle.image.specs.Encode.{encode, tableOf}
+use Rattle.image.specs.Check.{badCount, badLength, badYields, badDiagonal, badUnheard, badRow, badNames, badOrder, badMarks, checkBody, checked}
+use Rattle.merge.specs.Known.{common, known}
+use Rattle.merge.specs.Verdict.{verdict, undecided}
+use Rattle.merge.specs.Label.{labelUsed, lowestFrom, newLabel}
+use Rattle.merge.specs.Merged.{latestName, mergedNames, mergedYields, mergedOrder, merged, verdictBytes}
+use Rattle.merge.specs.Call.{metTogether, metGood, metChecked, meetingCall}
+use Rattle.head.specs.Calls.{milked, milkingCall}
+use Rattle.line.specs.Digits.{isDigit, digitValue, allDigits, wholePairs, pairValue, bytesOf, digitOf, digitsOf}
+use Rattle.line.specs.Frame.{kindOfTwo, kindOfThree, kindOfFour, frameOfBytes, frameOf}
+use Rattle.line.specs.Parlour.{stateLength, isOpen, imageOf, withImage, freshSlot, freshState}
+use Rattle.line.specs.Answer.{Reply, refusal, opening, milking, meetingOf, meeting, showing, Replies}
+use Rattle.line.specs.declared.frame.Frame.{Frame}
+use Rattle.line.specs.declared.frame.Frame.the-variants.{Open, Milking, Meeting, Show, Heard, Bad}
+
+-- whoever unfolds this unfolds all that an answer is computed with
+unfoldable answered : Unit {0}
+unfolding flatMap some each bits has markAt nameFrom nameAt heardAt freshImage encode tableOf badCount badLength badYields badDiagonal badUnheard badRow badNames badOrder badMarks checkBody checked common known verdict undecided labelUsed lowestFrom newLabel latestName mergedNames mergedYields mergedOrder merged verdictBytes metTogether metGood metChecked meetingCall milked milkingCall isDigit digitValue allDigits wholePairs pairValue bytesOf digitOf digitsOf kindOfTwo kindOfThree kindOfFour frameOfBytes frameOf imageOf withImage freshSlot freshState opening milking meetingOf meeting showing
+answered = tt
+
+-- the one reply to any frame but a heard list's
+replyTo : List ℕ → Bool → Frame → Reply
+replyTo state opened Bad = refusal state 10
+replyTo state true (Open n) = refusal state 11
+replyTo state false (Open n) = opening state n
+replyTo state true (Milking stall yield) = milking state stall yield
+replyTo state true (Meeting p q) = meeting state p q
+replyTo state true (Show stall) = showing state stall
+replyTo state true (Heard stall) = refusal state 0
+replyTo state false (Milking stall yield) = refusal state 11
+replyTo state false (Meeting p q) = refusal state 11
+replyTo state false (Show stall) = refusal state 11
+replyTo state false (Heard stall) = refusal state 11
+
+abbrev isList : Frame → Bool
+isList (Heard stall) = true
+isList (Open n) = false
+isList (Milking stall yield) = false
+isList (Meeting p q) = false
+isList (Show stall) = false
+isList Bad = false
+
+one-reply : (state : List ℕ) (opened : Bool) (frame : Frame) (reply : Reply) → isList frame ≡ false → Replies state opened frame reply → reply ≡ replyTo state opened frame
+unfolding replyTo
+one-reply state opened Bad reply e r = r
+one-reply state true (Open n) reply e r = r
+one-reply state false (Open n) reply e r = r
+one-reply state true (Milking stall yield) reply e r = r
+one-reply state true (Meeting p q) reply e r = r
+one-reply state true (Show stall) reply e r = r
+one-reply state true (Heard stall) reply e r = absurd (let z : true ≡ false = e in mathlib.Core.Bool.true≢false z)
+one-reply state false (Milking stall yield) reply e r = r
+one-reply state false (Meeting p q) reply e r = r
+one-reply state false (Show stall) reply e r = r
+one-reply state false (Heard stall) reply e r = r
+
+-- the answers to some lines in turn, as bytes
+answersTo : List ℕ → List (List ℕ) → List (List ℕ)
+answersTo state [] = []
+answersTo state (line ∷ l) =
+    let reply = replyTo state (isOpen state) (frameOf line) in
+    reply .bytes ∷ answersTo (reply .state) l
+
+abbrev shut : List ℕ
+shut = replicate stateLength 0
+
+-- the digits are those of the listing
+digit-examples : (digitsOf (0x01 ∷ 0x03 ∷ []) ≡ 0x30 ∷ 0x31 ∷ 0x30 ∷ 0x33 ∷ []) × (digitsOf (0x0a ∷ 0x9f ∷ []) ≡ 0x30 ∷ 0x61 ∷ 0x39 ∷ 0x66 ∷ [])
+unfolding answered
+digit-examples = (refl, refl)
+
+-- "Input and whole output"
+listing-example : answersTo shut (map digitsOf
+    ((0x01 ∷ 0x03 ∷ [])
+    ∷ (0x02 ∷ 0x01 ∷ 0x00 ∷ 0x12 ∷ [])
+    ∷ (0x03 ∷ 0x01 ∷ 0x02 ∷ [])
+    ∷ (0x03 ∷ 0x02 ∷ 0x03 ∷ [])
+    ∷ (0x04 ∷ 0x03 ∷ [])
+    ∷ []))
+    ≡ (0x00 ∷ [])
+    ∷ (0x00 ∷ [])
+    ∷ (0x00 ∷ 0x00 ∷ 0x00 ∷ 0x00 ∷ 0x00 ∷ [])
+    ∷ (0x00 ∷ 0x00 ∷ 0x01 ∷ 0x01 ∷ 0x00 ∷ [])
+    ∷ (0x00 ∷ 0x03 ∷ 0x03 ∷ 0x00 ∷ 0x00 ∷ 0x02 ∷ 0x00 ∷ 0x01 ∷ 0x00 ∷ 0x00 ∷ 0x00 ∷ 0x02 ∷ 0x00 ∷ 0x03 ∷ 0x00 ∷ 0x02 ∷ 0x00
+    ∷ 0x02 ∷ 0x00 ∷ 0x03 ∷ 0x00 ∷ 0x02 ∷ 0x00 ∷ 0x00 ∷ 0x12 ∷ 0x00 ∷ 0x00 ∷ 0x00 ∷ 0x00 ∷ 0x07 ∷ 0x06 ∷ 0x06 ∷ [])
+    ∷ []
+unfolding answered replyTo answersTo
+listing-example = refl
+
+-- 10: a digit alone; an empty line; an upper-case digit; a kind unknown; a length that is not the kind's; a carriage return
+bad-examples : answersTo shut
+    ((0x30 ∷ [])
+    ∷ []
+    ∷ (0x30 ∷ 0x34 ∷ 0x30 ∷ 0x41 ∷ [])
+    ∷ digitsOf (0x06 ∷ 0x01 ∷ [])
+    ∷ digitsOf (0x01 ∷ 0x03 ∷ 0x00 ∷ [])
+    ∷ (digitsOf (0x01 ∷ 0x03 ∷ []) ++ (0x0d ∷ []))
+    ∷ [])
+    ≡ replicate 6 (10 ∷ [])
+unfolding answered replyTo answersTo
+bad-examples = refl
+
+-- 11 before any opening, and for a second one whatever its N; 10 comes first; an opening refused with 1 opens nothing
+opening-examples : answersTo shut (map digitsOf
+    ((0x03 ∷ 0x01 ∷ 0x02 ∷ [])
+    ∷ (0x07 ∷ [])
+    ∷ (0x01 ∷ 0x01 ∷ [])
+    ∷ (0x01 ∷ 0x09 ∷ [])
+    ∷ (0x04 ∷ 0x01 ∷ [])
+    ∷ (0x01 ∷ 0x02 ∷ [])
+    ∷ (0x01 ∷ 0x02 ∷ [])
+    ∷ (0x01 ∷ 0x01 ∷ [])
+    ∷ []))
+    ≡ (11 ∷ []) ∷ (10 ∷ []) ∷ (1 ∷ []) ∷ (1 ∷ []) ∷ (11 ∷ []) ∷ (0 ∷ []) ∷ (11 ∷ []) ∷ (11 ∷ []) ∷ []
+unfolding answered replyTo answersTo
+opening-examples = refl
+
+-- 3 before 4, 3 before 7, and yields of 999 and 1000
+stall-examples : answersTo shut (map digitsOf
+    ((0x01 ∷ 0x02 ∷ [])
+    ∷ (0x02 ∷ 0x00 ∷ 0x03 ∷ 0xe8 ∷ [])
+    ∷ (0x03 ∷ 0x03 ∷ 0x03 ∷ [])
+    ∷ (0x03 ∷ 0x01 ∷ 0x03 ∷ [])
+    ∷ (0x03 ∷ 0x02 ∷ 0x02 ∷ [])
+    ∷ (0x02 ∷ 0x01 ∷ 0x03 ∷ 0xe8 ∷ [])
+    ∷ (0x02 ∷ 0x01 ∷ 0x03 ∷ 0xe7 ∷ [])
+    ∷ []))
+    ≡ (0 ∷ []) ∷ (3 ∷ []) ∷ (3 ∷ []) ∷ (3 ∷ []) ∷ (7 ∷ []) ∷ (4 ∷ []) ∷ (0 ∷ []) ∷ []
+unfolding answered replyTo answersTo
+stall-examples = refl

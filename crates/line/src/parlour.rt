@@ -1,0 +1,95 @@
+// The state between lines: N, then a slot for each stall.
+ghost use mathlib.Core.Path.{_≡_};
+ghost use mathlib.Core.List.{_∷_, _++_};
+ghost use mathlib.Core.Bool.{not};
+ghost use Prim.Native.Nat.{_+_, _-_, _≤_};
+ghost use lib.ListN.{length, take, drop, replicate};
+ghost use Rattle.image.specs.Check.{badStall};
+ghost use Rattle.image.specs.Layout.{largest};
+ghost use Rattle.image.specs.Stalls.{each};
+ghost use Rattle.line.specs.Parlour.{slotLength, stateLength, isCount, slotPlace, freshSlot, freshState};
+use image::Head;
+use image::bytes::wide;
+
+// n is that of a parlour.
+pub(crate) fn is_count(n: u8) -> bool
+    ensures { λ r. ⌜ r ≡ isCount n ⌝ }
+{
+    (2 <= n) & (n <= 8)
+}
+
+// A parlour of n heads has no such stall.
+pub(crate) fn bad_stall(n: u8, stall: u8) -> bool
+    ensures { λ r. ⌜ r ≡ badStall n stall ⌝ }
+{
+    !((1 <= stall) & (stall <= n))
+}
+
+// Where the slot of a stall starts.
+pub(crate) fn place_of(stall: u8) -> usize
+    requires { ⌜ 1 ≤ stall ⌝ }
+    ensures { λ r. ⌜ r ≡ slotPlace stall ⌝ }
+{
+    1 + (wide(stall) - 1) * 156
+}
+
+// The bytes at a place, then zeros.
+pub(crate) fn image_at(state: &[u8], at: usize, count: usize) -> [u8; 156]
+    requires { ⌜ (count ≤ slotLength) × (at + count ≤ length (now state)) ⌝ }
+    ensures { λ r. ⌜ r ≡ take count (drop at (now (state .entry))) ++ replicate (slotLength - count) 0 ⌝ }
+{
+    let mut image = [0u8; 156];
+    let mut i = 0usize;
+    while i < count {
+        image[i] = state[at + i];
+        i += 1;
+    }
+    image
+}
+
+// The first bytes of an image to a place.
+pub(crate) fn write_image(state: &mut [u8], at: usize, count: usize, image: [u8; 156])
+    requires { ⌜ (count ≤ slotLength) × (at + count ≤ length (now state)) × (length image ≡ slotLength) ⌝ }
+    ensures { λ r. ⌜ now (state .exit) ≡ take at (now (state .entry)) ++ take count image ++ drop (at + count) (now (state .entry)) ⌝ }
+{
+    let mut i = 0usize;
+    while i < count {
+        state[at + i] = image[i];
+        i += 1;
+    }
+}
+
+// The slot of a stall in a parlour of n heads just opened.
+fn fresh_slot(n: u8, stall: u8) -> [u8; 156]
+    requires { ⌜ (2 ≤ n) × (n ≤ largest) ⌝ }
+    ensures { λ r. ⌜ r ≡ freshSlot n stall ⌝ }
+{
+    if stall <= n {
+        let head = Head::fresh(n, stall);
+        return head.image;
+    }
+    [0u8; 156]
+}
+
+// Every slot of a parlour of n heads just opened.
+fn open_slots(state: &mut [u8], n: u8)
+    requires { ⌜ (length (now state) ≡ stateLength) × (2 ≤ n) × (n ≤ largest) ⌝ }
+    ensures { λ r. ⌜ now (state .exit) ≡ take 1 (now (state .entry)) ++ each largest (freshSlot n) ⌝ }
+{
+    let mut at = 1usize;
+    let mut r = 0u8;
+    while r < 8 {
+        write_image(state, at, 156, fresh_slot(n, r + 1));
+        at += 156;
+        r += 1;
+    }
+}
+
+// A parlour of n heads just opened.
+pub(crate) fn open_parlour(state: &mut [u8], n: u8)
+    requires { ⌜ (length (now state) ≡ stateLength) × (2 ≤ n) × (n ≤ largest) ⌝ }
+    ensures { λ r. ⌜ now (state .exit) ≡ freshState n ⌝ }
+{
+    open_slots(state, n);
+    state[0] = n;
+}

@@ -1,0 +1,40 @@
+-- The answer to a line in the part of a buffer that it is lent.
+use Prim.Native.Nat.{ℕ, _+_, _-_, _*_, _≤_}
+use mathlib.Core.Path.{_≡_, ap, _∙_}
+use mathlib.Core.Bool.{Bool, true, false, _&&_}
+use mathlib.Core.List.{List, _++_}
+use native.Mathlib.Omega.{arith}
+use lib.Dec.{leb, eqb}
+use lib.ListN.{length, take, drop, length-append, length-drop}
+use lib.Seq.{length-take-le}
+use Rattle.line.specs.Digits.{digitsOf}
+use Rattle.line.specs.Parlour.{stateLength}
+use Rattle.line.specs.Answer.{longestAnswer, written, AnswerIn, AnswerCall}
+use Rattle.wilbryn.specs.Stream.{room}
+use Rattle.line.proofs.Hexadecimal.{length-digits}
+
+length-written : (out bytes : List ℕ) → length (written out bytes) ≡ 2 * length bytes + (length out - 2 * length bytes)
+unfolding written
+length-written out bytes = length-append (digitsOf bytes) (drop (2 * length bytes) out) ∙ omega (arith, length-digits bytes, length-drop (2 * length bytes) out)
+
+-- no more digits than the part has bytes
+pub count-within : {state line out : List ℕ} {count : ℕ} {state′ out′ : List ℕ} → AnswerCall state line out count state′ out′ → length out′ ≡ length out → count ≤ length out
+count-within {state} {line} {out} {count} {state′} {out′} w e = go (eqb (length state) stateLength && leb longestAnswer (length out)) (w .answer)
+  where
+    go : (b : Bool) → AnswerIn state line out count state′ out′ b → count ≤ length out
+    go true v = omega (arith, v .given .counted, ap length (v .given .out-is), length-written out (v .reply .bytes))
+    go false v = omega (arith, v .0)
+
+-- a part of 314 bytes is one
+pub part-room : (out : List ℕ) (at : ℕ) → at + room ≤ length out → length (take (at + 314 - at) (drop at out)) ≡ 314
+part-room out at l = length-take-le (at + 314 - at) (drop at out) (omega (arith, length-drop at out)) ∙ omega arith
+
+-- and as long as before
+pub length-put : (out x : List ℕ) (at : ℕ) → at + room ≤ length out → length x ≡ 314 → length (take at out ++ (x ++ drop (at + 314 - at) (drop at out))) ≡ length out
+length-put out x at l e =
+    length-append (take at out) (x ++ drop (at + 314 - at) (drop at out))
+    ∙ omega (arith, length-take-le at out (omega arith), length-append x (drop (at + 314 - at) (drop at out)), length-drop (at + 314 - at) (drop at out), length-drop at out)
+
+-- what is left of a block
+pub rest-long : (block : List ℕ) (at : ℕ) → length (take (length block - at) (drop at block)) ≡ length block - at
+rest-long block at = length-take-le (length block - at) (drop at block) (omega (arith, length-drop at block))

@@ -1,0 +1,2 @@
+-- The lemmas of `wilbryn`.
+pub mod Answers

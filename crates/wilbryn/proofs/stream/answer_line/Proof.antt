@@ -1,0 +1,23 @@
+-- The answer to a line, and a newline.
+use mathlib.Core.Path.{_∙_}
+use native.Mathlib.Omega.{arith}
+use Rattle.wilbryn.proofs.Answers.{count-within, part-room, length-put}
+use borrow.Author.Needs.{needs}
+use Rattle.wilbryn.proofs.stream.answer_line.Statement.{statement}
+use Rattle.wilbryn.proofs.stream.answer_line.Tie as tie
+
+pub answer-line-spec : {M : Type 1} → statement M
+answer-line-spec =
+    tie.close
+    (tie.spec
+    (λ c. search needs)
+    (λ c. search needs)
+    (λ c. search needs)
+    (λ c. search needs)
+    (λ c κs. search needs)
+    (λ c. omega (arith, count-within (c .before .before .before .before .answer .ensures) (c .before .before .before .before .answer .kept .1 .1 .0), part-room (c .before .before .before .before .before .before .before .before .before .before .args .out .now) (c .before .before .before .before .before .before .before .before .before .before .args .at) (c .before .before .before .before .before .before .before .before .before .before .pre .1)))
+    (λ c. omega (arith, count-within (c .before .before .before .before .answer .ensures) (c .before .before .before .before .answer .kept .1 .1 .0), part-room (c .before .before .before .before .before .before .before .before .before .before .args .out .now) (c .before .before .before .before .before .before .before .before .before .before .args .at) (c .before .before .before .before .before .before .before .before .before .before .pre .1), length-put (c .before .before .before .before .before .before .before .before .before .before .args .out .now) (c .before .before .before .before .answer .last .1 .1 .0) (c .before .before .before .before .before .before .before .before .before .before .args .at) (c .before .before .before .before .before .before .before .before .before .before .pre .1) (c .before .before .before .before .answer .kept .1 .1 .0 ∙ part-room (c .before .before .before .before .before .before .before .before .before .before .args .out .now) (c .before .before .before .before .before .before .before .before .before .before .args .at) (c .before .before .before .before .before .before .before .before .before .before .pre .1))))
+    (λ c. omega (arith, count-within (c .before .before .before .before .answer .ensures) (c .before .before .before .before .answer .kept .1 .1 .0), part-room (c .before .before .before .before .before .before .before .before .before .before .args .out .now) (c .before .before .before .before .before .before .before .before .before .before .args .at) (c .before .before .before .before .before .before .before .before .before .before .pre .1)))
+    (λ c. search needs)
+    (λ c. search needs)
+    (λ c. (omega arith, omega (arith, count-within (c .before .before .before .before .answer .ensures) (c .before .before .before .before .answer .kept .1 .1 .0), part-room (c .before .before .before .before .before .before .before .before .before .before .args .out .now) (c .before .before .before .before .before .before .before .before .before .before .args .at) (c .before .before .before .before .before .before .before .before .before .before .pre .1)))))
