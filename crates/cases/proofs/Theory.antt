@@ -7,18 +7,8 @@ use native.Mathlib.Omega.{arith}
 use borrow.Author.Tests.{eqb-true}
 use lib.Dec.{eqb}
 use lib.ListN.{length, getD}
-use Rattle.image.specs.Stalls.{some, each, bits, has}
-use Rattle.image.specs.Layout.{markAt, nameFrom, nameAt, heardAt}
-use Rattle.image.specs.Fresh.{freshImage}
-use Rattle.image.specs.Encode.{encode, tableOf}
-use Rattle.image.specs.Check.{badCount, badLength, badYields, badDiagonal, badUnheard, badRow, badNames, badOrder, badMarks, checkBody, checked}
 use Rattle.image.proofs.Passing.{and-holds}
-use Rattle.head.specs.Calls.{milked, milkingCall}
-use Rattle.merge.specs.Known.{common, known}
-use Rattle.merge.specs.Verdict.{verdict, undecided}
-use Rattle.merge.specs.Label.{labelUsed, lowestFrom, newLabel}
-use Rattle.merge.specs.Merged.{latestName, mergedNames, mergedYields, mergedOrder, merged, verdictBytes}
-use Rattle.merge.specs.Call.{metTogether, metGood, metChecked, meetingCall}
+use Rattle.line.specs.Examples.{answered, replyTo, answersTo}
 use Rattle.cases.specs.Case.{freshTo, labelsOf, afterAll, outcome, number}
 use Rattle.cases.specs.Table.{Case, table, _gives_}
 use Rattle.cases.specs.Theory.{Theory}
@@ -48,7 +38,7 @@ pass-each (c ∷ l) d e zero i = same-is (outcome (c .given)) (c .expected) (and
 pass-each (c ∷ l) d e (suc k) i = pass-each l d (and-holds (same (outcome (c .given)) (c .expected)) (pass l) .0 e .1) k (omega arith)
 
 table-passes : pass table ≡ true
-unfolding some each bits has markAt nameFrom nameAt heardAt freshImage encode tableOf badCount badLength badYields badDiagonal badUnheard badRow badNames badOrder badMarks checkBody checked milked milkingCall common known verdict undecided labelUsed lowestFrom newLabel latestName mergedNames mergedYields mergedOrder merged verdictBytes metTogether metGood metChecked meetingCall freshTo labelsOf afterAll outcome same pass table
+unfolding answered replyTo answersTo freshTo labelsOf afterAll outcome same pass table
 table-passes = refl
 
 pub theory : Theory

@@ -1,7 +1,7 @@
 -- What a case of document 01's "Meetings to try" does, and what comes of it, by the definitions that the contracts of the calls equal.
 use Prim.Native.Nat.{ℕ, zero, suc}
 use mathlib.Core.Bool.{cond}
-use mathlib.Core.List.{List, [], _∷_, _++_}
+use mathlib.Core.List.{List, [], _∷_, _++_, map, flatMap}
 use lib.Dec.{eqb}
 use lib.ListN.{getD, set, replicate}
 use Rattle.image.specs.Stalls.{each}
@@ -9,6 +9,8 @@ use Rattle.image.specs.Fresh.{freshImage}
 use Rattle.image.specs.Check.{checked, numberOf}
 use Rattle.head.specs.Calls.{milkingCall}
 use Rattle.merge.specs.Call.{MeetingOutcome, meetingCall}
+use Rattle.line.specs.Digits.{digitsOf}
+use Rattle.line.specs.Examples.{shut, answersTo}
 
 pub data Given : Type 0 where
   -- meetings in turn in a fresh parlour of n heads, for their labels
@@ -21,6 +23,8 @@ pub data Given : Type 0 where
   together : (first second : List ℕ) → Given
   -- a milking of a fresh head, for its answer
   milked : (yield : ℕ) → Given
+  -- lines in turn, each given by the bytes of its frame, for the bytes of all answers
+  lines : (frames : List (List ℕ)) → Given
   -- the check of an image, for its number
   number : (image : List ℕ) → Given
 
@@ -56,4 +60,5 @@ outcome (verdicts n meetings p q) = call n (afterAll n (fresh n) meetings) p q .
 outcome (firsts n) = each n (λ p. each n (λ q. cond (eqb p q) [] (call n (fresh n) p q .verdicts)))
 outcome (together first second) = meetingCall first second (replicate (getD first 0 0) 0) .answer ∷ []
 outcome (milked yield) = milkingCall (freshImage 2 1) yield .answer ∷ []
+outcome (lines frames) = flatMap (λ answer. answer) (answersTo shut (map digitsOf frames))
 outcome (number image) = numberOf (checked image) ∷ []

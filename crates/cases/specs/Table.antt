@@ -2,7 +2,7 @@
 use Prim.Native.Nat.{ℕ, _+_, _*_}
 use mathlib.Core.List.{List, [], _∷_, _++_}
 use lib.ListN.{replicate}
-use Rattle.cases.specs.Case.{Given, labels, verdicts, firsts, together, milked, number}
+use Rattle.cases.specs.Case.{Given, labels, verdicts, firsts, together, milked, lines, number}
 
 pub record Case : Type 0 where
   pub given : Given
@@ -19,6 +19,16 @@ example-2-4 = (1, 2) ∷ (1, 3) ∷ (1, 4) ∷ (4, 5) ∷ (2, 5) ∷ (2, 4) ∷ 
 -- an image of 3 stalls, of which 1 and 2 have met with this label
 abbrev pub withLabel : ℕ → List ℕ
 withLabel k = (3 ∷ 1 ∷ 0 ∷ 0 ∷ []) ++ (2 ∷ k ∷ 1 ∷ k ∷ 0 ∷ 0 ∷ []) ++ (2 ∷ k ∷ 1 ∷ k ∷ 0 ∷ 0 ∷ []) ++ replicate 12 0 ++ (3 ∷ 3 ∷ 0 ∷ [])
+
+-- the image that the listing shows
+abbrev pub listing : List ℕ
+listing =
+    (0x03 ∷ 0x03 ∷ 0x00 ∷ 0x00 ∷ [])
+    ++ (0x02 ∷ 0x00 ∷ 0x01 ∷ 0x00 ∷ 0x00 ∷ 0x00 ∷ [])
+    ++ (0x02 ∷ 0x00 ∷ 0x03 ∷ 0x00 ∷ 0x02 ∷ 0x00 ∷ [])
+    ++ (0x02 ∷ 0x00 ∷ 0x03 ∷ 0x00 ∷ 0x02 ∷ 0x00 ∷ [])
+    ++ (0x00 ∷ 0x12 ∷ 0x00 ∷ 0x00 ∷ 0x00 ∷ 0x00 ∷ [])
+    ++ (0x07 ∷ 0x06 ∷ 0x06 ∷ [])
 
 unfoldable pub table : List Case
 table =
@@ -39,6 +49,9 @@ table =
     ∷ (verdicts 5 example-2-4 1 2 gives (0 ∷ 2 ∷ 0 ∷ 2 ∷ 2 ∷ []))
     -- "N=4, 1-2, 1-3, 2-4, then 3-4: 1, 2, 1, 2."
     ∷ (verdicts 4 ((1, 2) ∷ (1, 3) ∷ (2, 4) ∷ []) 3 4 gives (1 ∷ 2 ∷ 1 ∷ 2 ∷ []))
+    -- "the listing above": the answers to all five lines, the last with the image of head 3
+    ∷ (lines ((0x01 ∷ 0x03 ∷ []) ∷ (0x02 ∷ 0x01 ∷ 0x00 ∷ 0x12 ∷ []) ∷ (0x03 ∷ 0x01 ∷ 0x02 ∷ []) ∷ (0x03 ∷ 0x02 ∷ 0x03 ∷ []) ∷ (0x04 ∷ 0x03 ∷ []) ∷ [])
+    gives ((0x00 ∷ []) ++ (0x00 ∷ []) ++ (0x00 ∷ 0x00 ∷ 0x00 ∷ 0x00 ∷ 0x00 ∷ []) ++ (0x00 ∷ 0x00 ∷ 0x01 ∷ 0x01 ∷ 0x00 ∷ []) ++ (0x00 ∷ listing)))
     -- "both images of row 9"
     ∷ (together (2 ∷ 1 ∷ 0 ∷ 0 ∷ 2 ∷ 0 ∷ 1 ∷ 0 ∷ 2 ∷ 0 ∷ 1 ∷ 0 ∷ 0 ∷ 0 ∷ 0 ∷ 0 ∷ 3 ∷ 3 ∷ []) (2 ∷ 2 ∷ 0 ∷ 0 ∷ 2 ∷ 1 ∷ 1 ∷ 1 ∷ 2 ∷ 1 ∷ 1 ∷ 1 ∷ 0 ∷ 0 ∷ 0 ∷ 0 ∷ 3 ∷ 3 ∷ [])
     gives ((256 + 9) ∷ []))

@@ -1,7 +1,7 @@
 -- Document 01's listing as lines, its examples for the numbers 10 and 11 and those of the other numbers that a line can draw, by evaluation.
 use Prim.Native.Nat.{ℕ}
 use mathlib.Core.Path.{_≡_, refl}
-use mathlib.Core.Bool.{Bool, true, false}
+use mathlib.Core.Bool.{Bool, true, false, true≢false}
 use mathlib.Core.List.{List, [], _∷_, _++_, map, flatMap}
 use lib.ListN.{replicate}
 use Rattle.image.specs.Stalls.{some, each, bits, has}
@@ -23,12 +23,12 @@ use Rattle.line.specs.declared.frame.Frame.{Frame}
 use Rattle.line.specs.declared.frame.Frame.the-variants.{Open, Milking, Meeting, Show, Heard, Bad}
 
 -- whoever unfolds this unfolds all that an answer is computed with
-unfoldable answered : Unit {0}
+unfoldable pub answered : Unit {0}
 unfolding flatMap some each bits has markAt nameFrom nameAt heardAt freshImage encode tableOf badCount badLength badYields badDiagonal badUnheard badRow badNames badOrder badMarks checkBody checked common known verdict undecided labelUsed lowestFrom newLabel latestName mergedNames mergedYields mergedOrder merged verdictBytes metTogether metGood metChecked meetingCall milked milkingCall isDigit digitValue allDigits wholePairs pairValue bytesOf digitOf digitsOf kindOfTwo kindOfThree kindOfFour frameOfBytes frameOf imageOf withImage freshSlot freshState opening milking meetingOf meeting showing
 answered = tt
 
 -- the one reply to any frame but a heard list's
-replyTo : List ℕ → Bool → Frame → Reply
+unfoldable pub replyTo : List ℕ → Bool → Frame → Reply
 replyTo state opened Bad = refusal state 10
 replyTo state true (Open n) = refusal state 11
 replyTo state false (Open n) = opening state n
@@ -49,7 +49,7 @@ isList (Meeting p q) = false
 isList (Show stall) = false
 isList Bad = false
 
-one-reply : (state : List ℕ) (opened : Bool) (frame : Frame) (reply : Reply) → isList frame ≡ false → Replies state opened frame reply → reply ≡ replyTo state opened frame
+pub one-reply : (state : List ℕ) (opened : Bool) (frame : Frame) (reply : Reply) → isList frame ≡ false → Replies state opened frame reply → reply ≡ replyTo state opened frame
 unfolding replyTo
 one-reply state opened Bad reply e r = r
 one-reply state true (Open n) reply e r = r
@@ -57,20 +57,20 @@ one-reply state false (Open n) reply e r = r
 one-reply state true (Milking stall yield) reply e r = r
 one-reply state true (Meeting p q) reply e r = r
 one-reply state true (Show stall) reply e r = r
-one-reply state true (Heard stall) reply e r = absurd (let z : true ≡ false = e in mathlib.Core.Bool.true≢false z)
+one-reply state true (Heard stall) reply e r = absurd (true≢false e)
 one-reply state false (Milking stall yield) reply e r = r
 one-reply state false (Meeting p q) reply e r = r
 one-reply state false (Show stall) reply e r = r
 one-reply state false (Heard stall) reply e r = r
 
 -- the answers to some lines in turn, as bytes
-answersTo : List ℕ → List (List ℕ) → List (List ℕ)
+unfoldable pub answersTo : List ℕ → List (List ℕ) → List (List ℕ)
 answersTo state [] = []
 answersTo state (line ∷ l) =
     let reply = replyTo state (isOpen state) (frameOf line) in
     reply .bytes ∷ answersTo (reply .state) l
 
-abbrev shut : List ℕ
+abbrev pub shut : List ℕ
 shut = replicate stateLength 0
 
 -- the digits are those of the listing
