@@ -7,14 +7,14 @@ use native.Mathlib.Omega.{arith}
 use native.Mathlib.Numerals.{add-one}
 use borrow.Author.Tests.{eq-eqb, le-leb}
 use lib.ListN.{length, getD, take, drop, set, length-append, take-append-drop}
-use lib.Seq.{take-suc, drop-cons, set-at, append-snoc, drop-append-le, drop-drop, length-take-le}
+use lib.Seq.{take-take, take-add, take-all, take-suc, drop-cons, set-at, append-snoc, drop-append-le, drop-drop, length-take-le}
 use Rattle.line.specs.Digits.{digitsOf}
 use Rattle.line.specs.Frame.{frameOf}
 use Rattle.line.specs.Parlour.{stateLength, isOpen}
 use Rattle.line.specs.Answer.{Replies, longestAnswer, written, Replied, AnswerIn, AnswerCall}
 use Rattle.line.proofs.Hexadecimal.{length-digits, behind}
 use Rattle.wilbryn.specs.Stream.{longestLine, room}
-use Rattle.wilbryn.specs.Session.{newline, answerTo, Session, nothing, another, ended, lineAfter, Keeps, Answers, LineAnswered}
+use Rattle.wilbryn.specs.Session.{newline, answerTo, Session, nothing, another, ended, lineAfter, Keeps, Answers, LineAnswered, Taken}
 use Rattle.wilbryn.proofs.Answers.{part-room}
 use Rattle.wilbryn.proofs.Sessions.{after-newline, after-byte, after-append, session-append, frame-kept}
 
@@ -132,3 +132,32 @@ pub answers-next : (input : List ℕ) (taken : ℕ) {state text out : List ℕ} 
     → Answers state text kept (take (taken + 1) input) out 0 kept₂ end₂ state₂ text₂ out₂
 answers-next input taken {state} {text} {out} {kept} {kept₂ = kept₂} {end₂} {state₂ = state₂} {text₂} {out₂} l v w =
     subst (λ i. Answers state text kept i out 0 kept₂ end₂ state₂ text₂ out₂) (sym (ap (λ k. take k input) (add-one taken) ∙ take-suc input taken 0 l)) (answers-join v w)
+
+-- a block in pieces: nothing yet, one piece more, all of it
+pub taken-start : {state text : List ℕ} {kept : ℕ} → Taken state text kept [] kept state text
+unfolding lineAfter
+taken-start = record { answers = []; session = λ line w. (nothing, w) }
+
+taken-join : {state text m n out : List ℕ} {kept kept₁ at kept₂ end₂ : ℕ} {state₁ text₁ state₂ text₂ out₂ : List ℕ} → Taken state text kept m kept₁ state₁ text₁
+    → Answers state₁ text₁ kept₁ n out at kept₂ end₂ state₂ text₂ out₂ → Taken state text kept (m ++ n) kept₂ state₂ text₂
+taken-join {m = m} {n} v w =
+    record {
+      answers = v .answers ++ w .answers;
+      session = λ line k.
+          let (a, b) = v .session line k in
+          let (c, d) = w .session (lineAfter line m) b in
+          (session-append a c, d ∙ ap (take longestLine) (sym (after-append line m n)));
+    }
+
+pub taken-more : (block : List ℕ) (at count : ℕ) {state text out : List ℕ} {kept kept₁ place kept₂ end₂ : ℕ} {state₁ text₁ state₂ text₂ out₂ : List ℕ}
+    → count ≤ length block - at → Taken state text kept (take at block) kept₁ state₁ text₁
+    → Answers state₁ text₁ kept₁ (take count (take (length block - at) (drop at block))) out place kept₂ end₂ state₂ text₂ out₂
+    → Taken state text kept (take (at + count) block) kept₂ state₂ text₂
+taken-more block at count {state} {text} {kept = kept} {kept₂ = kept₂} {state₂ = state₂} {text₂} l v w =
+    subst (λ i. Taken state text kept i kept₂ state₂ text₂)
+    (ap (λ i. take at block ++ i) (take-take count (length block - at) (drop at block) l) ∙ sym (take-add at count block))
+    (taken-join v w)
+
+pub taken-all : (block : List ℕ) (at : ℕ) {state text : List ℕ} {kept kept₁ : ℕ} {state₁ text₁ : List ℕ} → length block ≤ at → Taken state text kept (take at block) kept₁ state₁ text₁
+    → Taken state text kept block kept₁ state₁ text₁
+taken-all block at {state} {text} {kept} {kept₁} {state₁} {text₁} l = subst (λ i. Taken state text kept i kept₁ state₁ text₁) (take-all at block l)

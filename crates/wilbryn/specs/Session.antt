@@ -11,6 +11,8 @@ use Rattle.line.specs.Frame.{frameOf}
 use Rattle.line.specs.Parlour.{isOpen}
 use Rattle.line.specs.Answer.{Reply, Replies}
 use Rattle.wilbryn.specs.Stream.{longestLine}
+use Rattle.wilbryn.specs.declared.Turn.{Turn}
+use Rattle.wilbryn.specs.declared.Turn.the-variants.{More, Stop}
 
 abbrev pub newline : ℕ
 newline = 10
@@ -50,3 +52,13 @@ pub record LineAnswered (state line out : List ℕ) (at end : ℕ) (state′ out
   pub state-is : state′ ≡ reply .state
   pub ends : end ≡ at + length (answerTo reply)
   pub out-is : out′ ≡ take at out ++ answerTo reply ++ drop end out
+
+-- some input answered, its answers written in as many pieces as it took: the state and the line so far afterwards
+pub record Taken (state text : List ℕ) (kept : ℕ) (input : List ℕ) (kept′ : ℕ) (state′ text′ : List ℕ) : Type 0 where
+  pub answers : List ℕ
+  pub session : (line : List ℕ) → Keeps text kept line → Session state line input answers state′ × Keeps text′ kept′ (lineAfter line input)
+
+-- a turn that goes on has taken the whole block; one that stops could not write
+abbrev pub BlockTaken : List ℕ → List ℕ → ℕ → List ℕ → List ℕ → List ℕ → Turn → Type 0
+BlockTaken state text kept block state′ text′ (More kept′) = Taken state text kept block kept′ state′ text′
+BlockTaken state text kept block state′ text′ Stop = Unit {0}
