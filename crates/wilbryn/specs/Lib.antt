@@ -1,2 +1,3 @@
 -- What a reader has to believe of `wilbryn`.
 pub mod Stream
+pub mod Session

@@ -3,6 +3,7 @@ ghost use mathlib.Core.Path.{_≡_};
 ghost use Prim.Native.Nat.{_≤_};
 ghost use lib.ListN.{length};
 ghost use Rattle.line.specs.Parlour.{stateLength};
+ghost use Rattle.wilbryn.specs.Session.{BlockTaken};
 ghost use Rattle.wilbryn.specs.Stream.{Buffers, TurnOf, longestLine, room};
 use crate::stream::answer_line;
 use crate::stream::feed;
@@ -26,7 +27,9 @@ fn answer_block(
     out: &mut [u8],
 ) -> Turn
     requires { ⌜ Buffers (now state) (now text) kept (now out) ⌝ }
-    ensures { λ r. ⌜ TurnOf r ⌝ }
+    ensures { λ r.
+        ⌜ TurnOf r
+        × BlockTaken (now (state .entry)) (now (text .entry)) kept (now (block .entry)) (now (state .exit)) (now (text .exit)) r ⌝ }
 {
     let mut held = kept;
     let mut at = 0usize;

@@ -14,7 +14,7 @@ answer-rest-spec =
     (λ c. sym (length-take-le (c .before .before .before .before .before .before .args .kept) (c .before .before .before .before .before .before .args .text .now) (omega arith)))
     (λ c κs. search needs)
     (λ c. search needs)
-    (λ c. sym (length-take-le (c .before .before .before .before .before .answer-line .result) _ (omega (arith, c .before .before .before .before .before .answer-line .kept .1 .1 .0, c .before .before .before .before .before .answer-line .ensures .1))))
+    (λ c. sym (length-take-le (c .before .before .before .before .before .answer-line .result) _ (omega (arith, c .before .before .before .before .before .answer-line .kept .1 .1 .0, c .before .before .before .before .before .answer-line .ensures .0))))
     (λ c κs. search needs)
     (λ c. search needs)
     (λ c. search needs)

@@ -2,6 +2,7 @@
 use mathlib.Core.Path.{_∙_}
 use native.Mathlib.Omega.{arith}
 use Rattle.wilbryn.proofs.Answers.{count-within, part-room, length-put}
+use Rattle.wilbryn.proofs.Streams.{line-answered}
 use borrow.Author.Needs.{needs}
 use Rattle.wilbryn.proofs.stream.answer_line.Statement.{statement}
 use Rattle.wilbryn.proofs.stream.answer_line.Tie as tie
@@ -20,4 +21,4 @@ answer-line-spec =
     (λ c. omega (arith, count-within (c .before .before .before .before .answer .ensures) (c .before .before .before .before .answer .kept .1 .1 .0), part-room (c .before .before .before .before .before .before .before .before .before .before .args .out .now) (c .before .before .before .before .before .before .before .before .before .before .args .at) (c .before .before .before .before .before .before .before .before .before .before .pre .1)))
     (λ c. search needs)
     (λ c. search needs)
-    (λ c. (omega arith, omega (arith, count-within (c .before .before .before .before .answer .ensures) (c .before .before .before .before .answer .kept .1 .1 .0), part-room (c .before .before .before .before .before .before .before .before .before .before .args .out .now) (c .before .before .before .before .before .before .before .before .before .before .args .at) (c .before .before .before .before .before .before .before .before .before .before .pre .1)))))
+    (λ c. (omega (arith, count-within (c .before .before .before .before .answer .ensures) (c .before .before .before .before .answer .kept .1 .1 .0), part-room (c .before .before .before .before .before .before .before .before .before .before .args .out .now) (c .before .before .before .before .before .before .before .before .before .before .args .at) (c .before .before .before .before .before .before .before .before .before .before .pre .1)), line-answered (c .before .before .before .before .before .before .before .before .before .before .args .state .now) (c .before .before .before .before .before .before .before .before .before .before .args .text .now) (c .before .before .before .before .before .before .before .before .before .before .args .out .now) (c .before .before .before .before .answer .last .1 .1 .0) (c .before .before .before .before .answer .last .0) (c .before .before .before .before .before .before .before .before .before .before .args .at) (c .before .before .before .before .answer .result) (c .before .before .before .before .before .before .before .before .before .before .pre .0) (c .before .before .before .before .before .before .before .before .before .before .pre .1) (c .before .before .before .before .answer .ensures) (omega (arith, count-within (c .before .before .before .before .answer .ensures) (c .before .before .before .before .answer .kept .1 .1 .0), part-room (c .before .before .before .before .before .before .before .before .before .before .args .out .now) (c .before .before .before .before .before .before .before .before .before .before .args .at) (c .before .before .before .before .before .before .before .before .before .before .pre .1))))))

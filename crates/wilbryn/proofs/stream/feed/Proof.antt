@@ -1,14 +1,16 @@
 -- Bytes of a block.
 use Prim.Native.Nat.{_+_, _-_, _≤_}
 use mathlib.Core.Path.{_≡_, refl, _∙_}
-use lib.ListN.{length}
+use lib.ListN.{length, take}
 use native.Mathlib.Omega.{arith}
 use Rattle.wilbryn.specs.Stream.{longestLine}
+use Rattle.wilbryn.specs.Session.{Answers}
+use Rattle.wilbryn.proofs.Streams.{answers-start, answers-next}
 use Rattle.wilbryn.proofs.stream.feed.Statement.{statement}
 use Rattle.wilbryn.proofs.stream.feed.Tie as tie
 
 abbrev Inv-loop : tie.InvT-loop
-Inv-loop state₀ text₀ kept input out₀ taken₀ held₀ end₀ state text out taken held end = (taken ≤ length input) × (held ≤ longestLine) × (end ≤ length out₀) × (length state ≡ length state₀) × (length text ≡ length text₀) × (length out ≡ length out₀) × (1 ≤ taken + (length out₀ - end - 314))
+Inv-loop state₀ text₀ kept input out₀ taken₀ held₀ end₀ state text out taken held end = (taken ≤ length input) × (held ≤ longestLine) × (end ≤ length out₀) × (length state ≡ length state₀) × (length text ≡ length text₀) × (length out ≡ length out₀) × (1 ≤ taken + (length out₀ - end - 314)) × Answers state₀ text₀ kept (take taken input) out₀ 0 held end state text out
 
 abbrev μ-loop : tie.MeasureT-loop
 μ-loop state₀ text₀ kept input out₀ taken₀ held₀ end₀ state text out taken held end = length input - taken
@@ -19,18 +21,18 @@ feed-spec =
     (tie.spec
     Inv-loop
     μ-loop
-    (λ c. (omega arith, omega arith, omega arith, refl, refl, refl, omega arith))
+    (λ c. (omega arith, omega arith, omega arith, refl, refl, refl, omega arith, answers-start))
     (λ c. omega arith)
     (λ c. c .before .before .loop .inv .3)
     (λ c. c .before .before .loop .inv .4)
     (λ c. c .before .before .loop .inv .5)
-    (λ c. (omega arith, omega arith, omega arith, omega arith))
+    (λ c. (omega arith, omega arith, omega arith, omega arith, c .before .before .loop .inv .7))
     (λ c. omega arith)
     (λ c κs. (omega arith, omega arith, omega arith, omega arith))
     (λ c. omega arith)
     (λ c. omega arith)
-    (λ c. (omega arith, c .before .before .before .before .before .before .step .ensures .0, omega (arith, c .before .before .before .before .before .before .step .ensures .2), c .before .before .before .before .before .before .step .kept .0 ∙ c .before .before .before .before .before .before .before .before .before .before .before .before .before .loop .inv .3, c .before .before .before .before .before .before .step .kept .1 .0 ∙ c .before .before .before .before .before .before .before .before .before .before .before .before .before .loop .inv .4, c .before .before .before .before .before .before .step .kept .1 .1 .1 .1 .0 ∙ c .before .before .before .before .before .before .before .before .before .before .before .before .before .loop .inv .5, omega arith))
+    (λ c. (omega arith, c .before .before .before .before .before .before .step .ensures .0, omega (arith, c .before .before .before .before .before .before .step .ensures .1), c .before .before .before .before .before .before .step .kept .0 ∙ c .before .before .before .before .before .before .before .before .before .before .before .before .before .loop .inv .3, c .before .before .before .before .before .before .step .kept .1 .0 ∙ c .before .before .before .before .before .before .before .before .before .before .before .before .before .loop .inv .4, c .before .before .before .before .before .before .step .kept .1 .1 .1 .1 .0 ∙ c .before .before .before .before .before .before .before .before .before .before .before .before .before .loop .inv .5, omega arith, answers-next (c .before .before .before .before .before .before .before .before .before .before .before .before .before .before .before .before .before .before .args .input .now) (c .before .before .before .before .before .before .before .before .before .before .before .before .before .loop .taken) (c .before .before .before .before .before .before .before .before .before .before .before .before .loop-test .taken) (c .before .before .before .before .before .before .before .before .before .before .before .before .before .loop .inv .7) (c .before .before .before .before .before .before .step .ensures .2)))
     (λ c. c .before .loop .inv .3)
     (λ c. c .before .loop .inv .4)
     (λ c. c .before .loop .inv .5)
-    (λ c. (omega arith, omega arith, omega arith, omega arith)))
+    (λ c. (omega arith, omega arith, omega arith, omega arith, c .before .loop .inv .7)))
