@@ -234,6 +234,8 @@ fn conversations(test: &mut Test, random: &mut Random) {
         test.converse("part by part", cut(&input, || 1 + random.below(12)).into_iter());
         let input = sessions::session(random, 8, 20_000, odd);
         test.converse("burst by burst", cut(&input, || random.below(8_000)).into_iter());
+        test.converse("page by page", input.chunks(4_096));
+        test.converse("block by block", input.chunks(65_536));
     }
 }
 
