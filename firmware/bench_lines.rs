@@ -13,7 +13,6 @@ use std::process::{exit, Command, Stdio};
 use std::time::Instant;
 
 const LINES: usize = 1_000_000;
-const ROUNDS: usize = 7;
 
 /// A parlour of 8, then lines of which so many in a hundred are meetings and the others milkings.
 fn session(random: &mut Random, meetings: usize) -> String {
@@ -58,9 +57,9 @@ fn quantile(values: &[f64], part: f64) -> f64 {
 }
 
 /// The times of each program, in rounds that take the programs in turn. The first round warms up.
-fn times(programs: &[String], session: &str, pipe: bool) -> Vec<Vec<f64>> {
+fn times(programs: &[String], session: &str, pipe: bool, rounds: usize) -> Vec<Vec<f64>> {
     let mut times = vec![Vec::new(); programs.len()];
-    for round in 0..=ROUNDS {
+    for round in 0..=rounds {
         for turn in 0..programs.len() {
             let at = (round + turn) % programs.len();
             let time = time_of(&programs[at], session, pipe);
@@ -70,6 +69,12 @@ fn times(programs: &[String], session: &str, pipe: bool) -> Vec<Vec<f64>> {
         }
     }
     times
+}
+
+fn print_heads() {
+    println!("lines: a parlour of 8, {LINES} lines, medians of interleaved rounds");
+    println!("{:38}        lines a second      time, wilbryn / plain", "");
+    println!("session{:21}output to       plain    wilbryn    ratio     quartiles", "");
 }
 
 fn print_row(name: &str, to: &str, times: &[Vec<f64>]) {
@@ -98,18 +103,15 @@ fn main() {
     let mut arguments = std::env::args().skip(1);
     let folder = arguments.next().expect("a folder");
     let programs: Vec<String> = arguments.collect();
-    println!("lines: a parlour of 8, {LINES} lines, medians of {ROUNDS} interleaved rounds");
-    println!("{:<38}{:>22}{:>27}", "", "lines a second", "time, wilbryn / plain");
-    let heads = ["session", "output to", "plain", "wilbryn", "ratio", "quartiles"];
-    let [a, b, c, d, e, f] = heads;
-    println!("{a:<28}{b:<10}{c:>11}{d:>11}{e:>9}{f:>16}");
+    print_heads();
     let mut random = Random(0x5eed_0012);
-    for (name, meetings) in [("meetings, 1 in 4 a milking", 75), ("milkings", 0)] {
+    // Milkings alone are soon done, so that there is time for more rounds.
+    for (name, meetings, rounds) in [("meetings, 1 in 4 a milking", 75, 7), ("milkings", 0, 15)] {
         let path = format!("{folder}/session-{meetings}");
         fs::write(&path, session(&mut random, meetings)).expect("a session is written");
         expect_same(&programs, &path);
-        print_row(name, "/dev/null", &times(&programs, &path, false));
-        print_row(name, "a pipe", &times(&programs, &path, true));
+        print_row(name, "/dev/null", &times(&programs, &path, false, rounds));
+        print_row(name, "a pipe", &times(&programs, &path, true, rounds));
         fs::remove_file(&path).expect("a session is removed");
     }
 }
