@@ -1,7 +1,10 @@
 # Sourced by test and bench. Enters the repository root and sets: out, where build products go; lib,
 # the library to link (the proved one, or what WILBRYN_LIB names); meeting, the word that adds the
-# meetings if the library exports them; compile, the C compiler and its words.
+# meetings if the library exports them; program, the line program (the proved one, or what
+# WILBRYN_PROGRAM names); compile, the C compiler and its words; rust,
+# the Rust compiler.
 lib=${WILBRYN_LIB:+$(realpath "$WILBRYN_LIB")}
+program=${WILBRYN_PROGRAM:+$(realpath "$WILBRYN_PROGRAM")}
 cd "$(dirname "${BASH_SOURCE[0]}")/.."
 out=$PWD/target/firmware
 mkdir -p "$out"
@@ -9,9 +12,16 @@ if [ -z "$lib" ]; then
     rt staticlib head
     lib=$PWD/target/staticlib/libhead.a
 fi
+if [ -z "$program" ]; then
+    rt check wilbryn
+    program=$PWD/target/bin/wilbryn
+fi
 symbols=$(nm --quiet --extern-only --defined-only "$lib")
 meeting=()
 if grep -q ' T wilbryn_meeting$' <<<"$symbols"; then
     meeting=(-DWITH_MEETING)
 fi
 compile=(cc -std=c11 -O2 -g -Wall -Wextra -Werror)
+rust() { # source, product, words
+    rustc --edition 2021 -O "firmware/$1" -o "$out/$2" "${@:3}"
+}

@@ -1,165 +1,269 @@
-//! The line program in plain Rust, over the model: the other side of the comparison with the proved
-//! one. With no word it answers standard input; with a seed and a count it writes random lines.
+//! Runs a line program on many inputs and compares what it writes with document 01, line by line.
+//! Its arguments are the path of the program, and those of stored sessions to run besides.
 
+mod answers;
 #[allow(dead_code)]
 mod images;
 #[allow(dead_code)]
 mod model;
+mod pairs;
+mod program;
+mod sessions;
 
+use answers::{answers, lines, Answer, Lines};
 use images::Random;
-use std::io::{self, BufRead, Write};
+use program::Run;
+use std::process::exit;
+use std::thread;
+use std::time::Duration;
 
-/// The images of an open parlour, stall 1 first.
-struct Parlour(Vec<Vec<u8>>);
+const SEED: u64 = 0x5eed_0011;
 
-fn digit(c: u8) -> Option<u8> {
-    match c {
-        b'0'..=b'9' => Some(c - b'0'),
-        b'a'..=b'f' => Some(c - b'a' + 10),
-        _ => None,
+/// In kilobytes: the most that any run may have, and the most that a long one may have above a
+/// short one.
+const MOST_MEMORY: usize = 16 * 1024;
+const MOST_GROWTH: usize = 2 * 1024;
+
+/// Bytes as text, long ones cut short.
+fn shown(bytes: &[u8]) -> String {
+    match bytes.len() {
+        0 => String::from("nothing"),
+        1..=400 => format!("{:?}", String::from_utf8_lossy(bytes)),
+        len => format!("{:?} and so on, {len} bytes", String::from_utf8_lossy(&bytes[..60])),
     }
 }
 
-fn bytes(line: &[u8]) -> Option<Vec<u8>> {
-    if line.len() % 2 == 1 {
-        return None;
-    }
-    line.chunks(2).map(|pair| Some(digit(pair[0])? * 16 + digit(pair[1])?)).collect()
+struct Test {
+    path: String,
+    sessions: usize,
+    lines: usize,
+    by_number: [usize; 12],
 }
 
-fn open(n: u8) -> Result<Parlour, u8> {
-    if !(2..=8).contains(&n) {
-        return Err(1);
+impl Test {
+    fn fail(&self, name: &str, what: &str) -> ! {
+        println!("{}: {name}: {what}", self.path);
+        exit(1);
     }
-    let image = |stall| {
-        let mut image = vec![0; model::length(n as usize)];
-        assert_eq!(model::fresh(&mut image, n, stall), 0);
-        image
-    };
-    Ok(Parlour((1..=n).map(image).collect()))
-}
 
-fn number(answer: u32) -> Result<u8, u8> {
-    if answer < 256 {
-        Ok(answer as u8)
-    } else {
-        Err((answer - 256) as u8)
+    fn count(&mut self, expected: &[Answer]) {
+        self.lines += expected.len();
+        expected.iter().for_each(|answer| self.by_number[answer.number as usize] += 1);
     }
-}
 
-impl Parlour {
-    fn at(&self, stall: u8) -> Result<usize, u8> {
-        let stall = stall as usize;
-        if (1..=self.0.len()).contains(&stall) {
-            Ok(stall - 1)
-        } else {
-            Err(3)
+    /// Ends the run if one of the numbers that a line can be answered never came up.
+    fn print(&self) {
+        println!("  {} sessions, {} lines; how often each number:", self.sessions, self.lines);
+        for (number, count) in self.by_number.iter().enumerate().filter(|(_, &count)| count > 0) {
+            println!("    {number:02x}{count:>9}");
         }
-    }
-
-    fn milk(&mut self, stall: u8, new: u16) -> Result<Vec<u8>, u8> {
-        let at = self.at(stall)?;
-        match model::milking(&mut self.0[at], new) {
-            0 => Ok(vec![]),
-            refused => Err(refused as u8),
+        if let Some(number) = [0, 1, 3, 4, 7, 10, 11].iter().find(|&&n| self.by_number[n] == 0) {
+            self.fail("all sessions", &format!("number {number} never came up"));
         }
+        println!("  no difference");
     }
 
-    fn meet(&mut self, first: u8, second: u8) -> Result<Vec<u8>, u8> {
-        let (p, q) = (self.at(first)?, self.at(second)?);
-        if p == q {
-            return Err(7);
-        }
-        let (mut one, mut other) = (self.0[p].clone(), self.0[q].clone());
-        let mut told = vec![0; 1 + self.0.len()];
-        told[0] = number(model::meeting(&mut one, &mut other, &mut told[1..]))?;
-        (self.0[p], self.0[q]) = (one, other);
-        Ok(told)
-    }
-
-    fn heard(&self, stall: u8) -> Result<Vec<u8>, u8> {
-        let at = self.at(stall)?;
-        let mut told = vec![0; 1 + 3 * self.0.len()];
-        told[0] = number(model::heard(&self.0[at], &mut told[1..]))?;
-        told.truncate(1 + 3 * told[0] as usize);
-        Ok(told)
-    }
-}
-
-fn answer(parlour: &mut Option<Parlour>, line: &[u8]) -> Result<Vec<u8>, u8> {
-    let frame = bytes(line).ok_or(10)?;
-    let known = matches!(frame[..], [1 | 4 | 5, _] | [2, _, _, _] | [3, _, _]);
-    match (known, parlour, &frame[..]) {
-        (false, _, _) => Err(10),
-        (_, Some(_), [1, _]) => Err(11),
-        (_, none @ None, &[1, n]) => {
-            *none = Some(open(n)?);
-            Ok(vec![])
-        }
-        (_, None, _) => Err(11),
-        (_, Some(open), &[2, stall, high, low]) => {
-            open.milk(stall, u16::from_be_bytes([high, low]))
-        }
-        (_, Some(open), &[3, first, second]) => open.meet(first, second),
-        (_, Some(open), &[4, stall]) => Ok(open.0[open.at(stall)?].clone()),
-        (_, Some(open), &[_, stall]) => open.heard(stall),
-        _ => unreachable!(),
-    }
-}
-
-fn hex(bytes: &[u8]) -> String {
-    bytes.iter().map(|byte| format!("{byte:02x}")).collect()
-}
-
-/// Mostly frames of a parlour, opened late now and then, with a few stalls and yields that are not
-/// good; one line in twenty is damaged, or is any bytes.
-fn random_line(random: &mut Random, n: usize) -> Vec<u8> {
-    let stall =
-        |random: &mut Random| if random.percent(3) { random.byte() } else { random.stall(n) as u8 };
-    let mut frame = vec![random.pick(&[1, 2, 2, 3, 3, 3, 3, 4, 5])];
-    match frame[0] {
-        1 => frame.push(if random.percent(90) { n as u8 } else { random.byte() }),
-        2 => {
-            frame.push(stall(random));
-            frame.extend(random.any_yield().to_be_bytes());
-        }
-        3 => frame.extend([stall(random), stall(random)]),
-        _ => frame.push(stall(random)),
-    }
-    let mut line = hex(&frame).into_bytes();
-    if random.percent(5) {
-        match random.below(4) {
-            0 => line.truncate(random.below(line.len() + 1)),
-            1 => line.push(random.byte()),
-            2 => line.make_ascii_uppercase(),
-            _ => {
-                let len = random.below(40);
-                line = random.bytes(len);
+    /// Ends the run at the first line that is answered otherwise.
+    fn compare(&self, name: &str, input: &[u8], expected: &[Answer], output: &[u8]) {
+        let mut written = output.split_inclusive(|&c| c == b'\n');
+        for (at, (line, answer)) in lines(input).zip(expected).enumerate() {
+            let found = written.next().unwrap_or(b"");
+            if !found.strip_suffix(b"\n").is_some_and(|found| answer.fits(found)) {
+                let [line, found, text] = [line, found, &answer.text].map(shown);
+                self.fail(
+                    name,
+                    &format!("line {}\n  {line}\n  program: {found}\n  model:   {text}", at + 1),
+                );
             }
         }
+        if let Some(more) = written.next() {
+            self.fail(name, &format!("after the last answer comes {}", shown(more)));
+        }
     }
-    line.retain(|&c| c != b'\n');
-    line
+
+    /// Gives the program an input as fast as it reads.
+    fn run(&mut self, name: &str, input: &[u8]) {
+        let expected = answers(input);
+        let due = input.iter().filter(|&&c| c == b'\n').count();
+        let mut run = Run::start(&self.path);
+        let answered = run.feed(input, 1, due);
+        let ended = run.end();
+        self.compare(name, input, &expected, &run.output);
+        if !answered || !ended {
+            self.fail(name, "an answer was held back, or the program did not end well");
+        }
+        self.sessions += 1;
+        self.count(&expected);
+    }
+
+    /// Gives the program an input piece by piece: a piece is written when all answers to the lines
+    /// before are there.
+    fn converse<'a>(&mut self, name: &str, pieces: impl Iterator<Item = &'a [u8]>) {
+        let mut run = Run::start(&self.path);
+        let mut input = Vec::new();
+        let mut due = 0;
+        for piece in pieces {
+            run.write(piece);
+            input.extend(piece);
+            due += piece.iter().filter(|&&c| c == b'\n').count();
+            if !run.wait_for(due) {
+                self.fail(name, &format!("line {due}: its answer, or one before, does not come"));
+            }
+            if !piece.contains(&b'\n') {
+                // The program shall read this part of a line before the rest is there.
+                thread::sleep(Duration::from_micros(500));
+            }
+        }
+        let ended = run.end();
+        let expected = answers(&input);
+        self.compare(name, &input, &expected, &run.output);
+        if !ended {
+            self.fail(name, "the program did not end well");
+        }
+        self.sessions += 1;
+        self.count(&expected);
+    }
+
+    /// The most memory that the program has for an input that it is given so often.
+    fn memory(&mut self, name: &str, input: &[u8], times: usize) -> usize {
+        let rounds = rounds(input, times);
+        let count = rounds[0].len();
+        let mut run = Run::start(&self.path);
+        if !run.feed(input, times, times * count) {
+            self.compare(name, input, &rounds[0], &run.output);
+            self.fail(name, "an answer does not come");
+        }
+        let memory = run.memory();
+        let ended = run.end();
+        let written: Vec<&[u8]> = lines(&run.output).collect();
+        if !ended || written.len() != times * count {
+            self.fail(name, "too many answers, or the program did not end well");
+        }
+        for (time, written) in written.chunks(count).enumerate() {
+            let round = &rounds[time.min(1)];
+            if !round.iter().zip(written).all(|(answer, written)| answer.fits(written)) {
+                self.fail(
+                    name,
+                    &format!("wrong answers to the input when given {time} times before"),
+                );
+            }
+            self.count(round);
+        }
+        self.sessions += 1;
+        memory
+    }
 }
 
-fn main() -> io::Result<()> {
-    let words: Vec<u64> = std::env::args().skip(1).map(|word| word.parse().unwrap()).collect();
-    let mut out = io::BufWriter::new(io::stdout().lock());
-    if let &[seed, count] = &words[..] {
-        let mut random = Random(seed);
-        let n = random.size();
-        for _ in 0..count {
-            out.write_all(&random_line(&mut random, n))?;
-            out.write_all(b"\n")?;
-        }
-        return out.flush();
+/// The answers to an input the first time and, if it is given again, each later time. These must be
+/// the same ones.
+fn rounds(input: &[u8], times: usize) -> Vec<Vec<Answer>> {
+    let mut parlour = Lines::default();
+    let mut round = || lines(input).map(|line| parlour.answer(line)).collect();
+    let rounds: Vec<Vec<Answer>> = (0..times.min(3)).map(|_| round()).collect();
+    if let [_, second, third] = &rounds[..] {
+        assert!(second.iter().zip(third).all(|(answer, again)| answer.fits(&again.text)));
     }
-    let mut parlour = None;
-    for line in io::stdin().lock().split(b'\n') {
-        match answer(&mut parlour, &line?) {
-            Ok(more) => writeln!(out, "00{}", hex(&more))?,
-            Err(refused) => writeln!(out, "{refused:02x}")?,
-        }
+    rounds
+}
+
+/// Document 01's examples, which hold the model to the document too.
+fn examples(test: &mut Test) {
+    for (input, output) in sessions::EXAMPLES {
+        let expected = answers(input.as_bytes());
+        let model: String =
+            expected.iter().map(|answer| String::from_utf8_lossy(&answer.text) + "\n").collect();
+        assert_eq!(model, output);
+        test.run("an example of document 01", input.as_bytes());
+        test.run("an example without its last newline", input.trim_end().as_bytes());
     }
-    out.flush()
+}
+
+/// Each value of each byte of a frame.
+fn all_values(test: &mut Test) {
+    test.run("all kinds", &sessions::all_kinds());
+    test.run("all pairs of bytes", &sessions::all_pairs());
+    test.run("all yields", &sessions::all_yields());
+    for n in 2..=8 {
+        test.run("all openings", &sessions::all_openings(n));
+    }
+    for n in [2, 8] {
+        test.run("all pairs of stalls", &sessions::all_meetings(n));
+    }
+}
+
+fn long_sessions(test: &mut Test, random: &mut Random) {
+    for n in 2..=8 {
+        test.run("a long session", &sessions::session(random, n, 100_000, 0));
+        test.run("a long session with odd lines", &sessions::session(random, n, 100_000, 30));
+    }
+    test.run("the longest answers", &[b"0108\n", &b"0408\n".repeat(20_000)[..]].concat());
+    test.run("long lines", &sessions::long_lines(random));
+    test.run("a line of 10 MB", &sessions::huge_line(random, 10_000_000));
+    test.run("a line of 10 MB alone", &vec![b'0'; 10_000_000]);
+    test.run("a million empty lines", &vec![b'\n'; 1_000_000]);
+}
+
+fn short_sessions(test: &mut Test, random: &mut Random) {
+    for _ in 0..200 {
+        for odd in [0, 10, 50, 100] {
+            let (n, count) = (random.size(), random.below(60));
+            test.run("a short session", &sessions::session(random, n, count, odd));
+        }
+        test.run("noise", &sessions::noise(random));
+    }
+}
+
+/// Cuts an input after so many bytes, drawn anew for each piece.
+fn cut<'a>(mut input: &'a [u8], mut draw: impl FnMut() -> usize) -> Vec<&'a [u8]> {
+    let mut pieces = Vec::new();
+    while !input.is_empty() {
+        let (piece, rest) = input.split_at(draw().min(input.len()));
+        pieces.push(piece);
+        input = rest;
+    }
+    pieces
+}
+
+/// Nothing may be held back while the program waits for input.
+fn conversations(test: &mut Test, random: &mut Random) {
+    for odd in [0, 20] {
+        let input = sessions::session(random, 8, 300, odd);
+        let by_line = input.split_inclusive(|&c| c == b'\n');
+        test.converse("line by line", by_line);
+        test.converse("byte by byte", input[..800].chunks(1));
+        test.converse("part by part", cut(&input, || 1 + random.below(12)).into_iter());
+        let input = sessions::session(random, 8, 20_000, odd);
+        test.converse("burst by burst", cut(&input, || random.below(8_000)).into_iter());
+        test.converse("page by page", input.chunks(4_096));
+        test.converse("block by block", input.chunks(65_536));
+    }
+}
+
+fn memory(test: &mut Test, random: &mut Random) {
+    let block = b"0102\n02010012\n030102\n0201\n030201\n0402\n0501\n020203e8\n".repeat(1_000);
+    let short = test.memory("a short session", b"0102\n030102\n030102\n", 1);
+    let huge = test.memory("a line of 10 MB", &sessions::huge_line(random, 10_000_000), 1);
+    let many = test.memory("many lines", &block, 3_000_000 / 8_000);
+    print!("  most memory, in kB: {short} for 3 lines, {huge} for a line of 10 MB, ");
+    println!("{many} for 3 million lines");
+    if short.max(huge).max(many) > MOST_MEMORY.min(short + MOST_GROWTH) {
+        test.fail("memory", "it grows with the input");
+    }
+}
+
+fn main() {
+    let path = std::env::args().nth(1).expect("the path of a line program");
+    println!("lines: {path}, seed {SEED:#x}");
+    let mut test = Test { path, sessions: 0, lines: 0, by_number: [0; 12] };
+    let mut random = Random(SEED);
+    examples(&mut test);
+    for stored in std::env::args().skip(2) {
+        test.run(&stored, &std::fs::read(&stored).expect("a stored session"));
+    }
+    all_values(&mut test);
+    long_sessions(&mut test, &mut random);
+    short_sessions(&mut test, &mut random);
+    conversations(&mut test, &mut random);
+    memory(&mut test, &mut random);
+    test.print();
 }

@@ -6,13 +6,15 @@ mod history;
 mod images;
 #[allow(dead_code)]
 mod model;
+mod pairs;
 mod parlour;
 
 use calls::{hex, share_of, Run};
 use history::{History, Pasts};
 use images::Random;
 use model::Table;
-use parlour::{buffer, next_pair, Parlour, Seen, Way, WAYS};
+use pairs::{next_pair, Way, WAYS};
+use parlour::{buffer, Parlour, Seen};
 
 /// Runs lists from fresh; `each` sees the parlour after each step, `steps` times in all.
 fn run_lists(

@@ -1,0 +1,117 @@
+//! Times line programs on the same sessions, round by round in turn. Its arguments: a folder for
+//! the sessions, the plain program, and the proved one if it is there.
+
+#[allow(dead_code)]
+mod images;
+#[allow(dead_code)]
+mod model;
+
+use images::Random;
+use std::fs::{self, File};
+use std::io::Read;
+use std::process::{exit, Command, Stdio};
+use std::time::Instant;
+
+const LINES: usize = 1_000_000;
+
+/// A parlour of 8, then lines of which so many in a hundred are meetings and the others milkings.
+fn session(random: &mut Random, meetings: usize) -> String {
+    let mut input = String::from("0108\n");
+    for _ in 1..LINES {
+        let stall = random.stall(8);
+        input += &if random.percent(meetings) {
+            format!("03{stall:02x}{:02x}\n", random.other_stall(8, stall))
+        } else {
+            format!("02{stall:02x}{:04x}\n", random.good_yield())
+        };
+    }
+    input
+}
+
+/// What a program writes for a session.
+fn output(program: &str, session: &str) -> Vec<u8> {
+    let input = File::open(session).expect(session);
+    Command::new(program).stdin(input).output().expect(program).stdout
+}
+
+/// The seconds that a program takes, its output to a pipe or to /dev/null.
+fn time_of(program: &str, session: &str, pipe: bool) -> f64 {
+    let input = File::open(session).expect(session);
+    let to = if pipe { Stdio::piped() } else { Stdio::null() };
+    let mut block = vec![0; 1 << 16];
+    let start = Instant::now();
+    let mut child = Command::new(program).stdin(input).stdout(to).spawn().expect(program);
+    if let Some(mut from) = child.stdout.take() {
+        while from.read(&mut block).is_ok_and(|count| count > 0) {}
+    }
+    let ended = child.wait().is_ok_and(|status| status.success());
+    assert!(ended, "{program} did not end well");
+    start.elapsed().as_secs_f64()
+}
+
+/// The value below which this part of the values lies.
+fn quantile(values: &[f64], part: f64) -> f64 {
+    let mut values = values.to_vec();
+    values.sort_by(f64::total_cmp);
+    values[(part * (values.len() - 1) as f64) as usize]
+}
+
+/// The times of each program, in rounds that take the programs in turn. The first round warms up.
+fn times(programs: &[String], session: &str, pipe: bool, rounds: usize) -> Vec<Vec<f64>> {
+    let mut times = vec![Vec::new(); programs.len()];
+    for round in 0..=rounds {
+        for turn in 0..programs.len() {
+            let at = (round + turn) % programs.len();
+            let time = time_of(&programs[at], session, pipe);
+            if round > 0 {
+                times[at].push(time);
+            }
+        }
+    }
+    times
+}
+
+fn print_heads() {
+    println!("lines: a parlour of 8, {LINES} lines, medians of interleaved rounds");
+    println!("{:38}        lines a second      time, wilbryn / plain", "");
+    println!("session{:21}output to       plain    wilbryn    ratio     quartiles", "");
+}
+
+fn print_row(name: &str, to: &str, times: &[Vec<f64>]) {
+    print!("{name:<28}{to:<10}");
+    for times in times {
+        print!("{:>11.0}", LINES as f64 / quantile(times, 0.5));
+    }
+    if let [plain, proved] = times {
+        let ratios: Vec<f64> = proved.iter().zip(plain).map(|(b, a)| b / a).collect();
+        let [middle, low, high] = [0.5, 0.25, 0.75].map(|part| quantile(&ratios, part));
+        print!("{middle:>9.2}{low:>8.2} to {high:>5.2}");
+    }
+    println!();
+}
+
+/// Both must write the same, or the times mean nothing.
+fn expect_same(programs: &[String], session: &str) {
+    let first = output(&programs[0], session);
+    if programs.iter().any(|program| output(program, session) != first) {
+        println!("{session}: the programs differ");
+        exit(1);
+    }
+}
+
+fn main() {
+    let mut arguments = std::env::args().skip(1);
+    let folder = arguments.next().expect("a folder");
+    let programs: Vec<String> = arguments.collect();
+    print_heads();
+    let mut random = Random(0x5eed_0012);
+    // Milkings alone are soon done, so that there is time for more rounds.
+    for (name, meetings, rounds) in [("meetings, 1 in 4 a milking", 75, 7), ("milkings", 0, 15)] {
+        let path = format!("{folder}/session-{meetings}");
+        fs::write(&path, session(&mut random, meetings)).expect("a session is written");
+        expect_same(&programs, &path);
+        print_row(name, "/dev/null", &times(&programs, &path, false, rounds));
+        print_row(name, "a pipe", &times(&programs, &path, true, rounds));
+        fs::remove_file(&path).expect("a session is removed");
+    }
+}

@@ -1,0 +1,265 @@
+//! Inputs for a line program: taken lines, refused ones, and bytes that are no lines at all.
+
+use crate::images::Random;
+use crate::pairs::{next_pair, Way, WAYS};
+
+/// Document 01's listing and its examples of lines: input and output.
+pub const EXAMPLES: [(&str, &str); 8] = [
+    (
+        "0103\n02010012\n030102\n030203\n0403\n",
+        "00\n00\n0000000000\n0000010100\n\
+         0003030000020001000000020003000200020003000200001200000000070606\n",
+    ),
+    ("0\n", "0a\n"),
+    ("030102\n", "0b\n"),
+    ("\n", "0a\n"),
+    ("", ""),
+    ("0102\n030102\n030102\n030102\n030102\n", "00\n00000000\n00010000\n00000000\n00010000\n"),
+    (
+        "0103\n030102\n030103\n030102\n030102\n030102\n",
+        "00\n0000000000\n0000010100\n0001010001\n0002000000\n0001000000\n",
+    ),
+    ("0102\n020103e7\n020103e8\n", "00\n00\n04\n"),
+];
+
+/// Lines to a parlour of n heads.
+pub struct Talk {
+    n: usize,
+    way: Way,
+    pair: (usize, usize),
+}
+
+impl Talk {
+    pub fn new(random: &mut Random, n: usize) -> Talk {
+        Talk { n, way: random.pick(&WAYS), pair: (1, 2) }
+    }
+
+    /// A line that an open parlour takes.
+    pub fn taken(&mut self, random: &mut Random) -> Vec<u8> {
+        let stall = random.stall(self.n);
+        let line = match random.below(20) {
+            0..=5 => format!("02{stall:02x}{:04x}", random.good_yield()),
+            6 => format!("04{stall:02x}"),
+            7 => format!("05{stall:02x}"),
+            _ => {
+                self.pair = next_pair(random, self.n, self.way, self.pair);
+                format!("03{:02x}{:02x}", self.pair.0, self.pair.1)
+            }
+        };
+        line.into_bytes()
+    }
+
+    /// A stall that is often none of the parlour's.
+    fn any_stall(&self, random: &mut Random) -> u8 {
+        let n = self.n as u8;
+        let any = random.byte();
+        random.pick(&[0, 1, n - 1, n, n + 1, 8, 9, 16 * n, 128 + n, 255, any])
+    }
+
+    /// A frame whose values are often refused.
+    fn odd_values(&self, random: &mut Random) -> Vec<u8> {
+        let (one, other) = (self.any_stall(random), self.any_stall(random));
+        let stall = random.stall(self.n);
+        let new = random.any_yield();
+        let new = random.pick(&[0, 255, 256, 999, 1000, 1001, 0x0fe7, 0xe703, 65535, new]);
+        let line = match random.below(9) {
+            0 => format!("02{one:02x}{new:04x}"),
+            1 => format!("02{stall:02x}{new:04x}"),
+            2 => format!("03{one:02x}{other:02x}"),
+            3 => format!("03{one:02x}{stall:02x}"),
+            4 => format!("03{stall:02x}{other:02x}"),
+            5 => format!("03{one:02x}{one:02x}"),
+            6 => format!("03{stall:02x}{stall:02x}"),
+            7 => format!("0{}{one:02x}", random.pick(&[4, 5])),
+            _ => opening(random),
+        };
+        line.into_bytes()
+    }
+
+    /// A line of digits that is mostly no frame: an unknown kind or a wrong length.
+    fn odd_digits(&mut self, random: &mut Random) -> Vec<u8> {
+        let mut line = self.taken(random);
+        match random.below(7) {
+            0 => line[..2].copy_from_slice(random.pick(&[b"00", b"06", b"10", b"20", b"ff"])),
+            1 => line.truncate(random.below(line.len())),
+            2 => line.extend(&digits(random, 1)),
+            3 => line.extend(&digits(random, 2)),
+            4 => line.clear(),
+            5 => {
+                let many = 1 + random.below(600);
+                line.extend(digits(random, many));
+            }
+            _ => {
+                let many = 1 + random.below(600);
+                line.splice(0..0, digits(random, many));
+            }
+        }
+        line
+    }
+
+    /// A taken line with one to three bytes wrong.
+    fn damaged(&mut self, random: &mut Random) -> Vec<u8> {
+        let mut line = self.taken(random);
+        for _ in 0..random.pick(&[1, 1, 2, 3]) {
+            damage(random, &mut line);
+        }
+        line
+    }
+
+    /// Any line: so many in a hundred are refused for one reason or another.
+    pub fn line(&mut self, random: &mut Random, odd: usize) -> Vec<u8> {
+        if !random.percent(odd) {
+            return self.taken(random);
+        }
+        match random.below(3) {
+            0 => self.odd_values(random),
+            1 => self.odd_digits(random),
+            _ => self.damaged(random),
+        }
+    }
+}
+
+fn opening(random: &mut Random) -> String {
+    let n = random.size();
+    format!("01{:02x}", random.pick(&[0, 1, n, n, 9, 255]))
+}
+
+fn digits(random: &mut Random, count: usize) -> Vec<u8> {
+    (0..count).map(|_| random.pick(b"0123456789abcdef")).collect()
+}
+
+/// Bytes next to the digits, blanks, and what a careless reader takes for a digit or for no byte.
+const NO_DIGITS: &[u8] = b"/:`g@GAF \t\r\0\x0b\x1a\x7f\x80\xb0\xff-+x.";
+
+fn damage(random: &mut Random, line: &mut Vec<u8>) {
+    let wrong = if random.percent(50) { random.pick(NO_DIGITS) } else { random.byte() };
+    let at = random.below(line.len().max(1));
+    match random.below(8) {
+        _ if line.is_empty() => line.push(wrong),
+        0 => line[at] = wrong,
+        1 => line.insert(at, wrong),
+        2 => drop(line.remove(at)),
+        3 => line.make_ascii_uppercase(),
+        4 => line.push(b'\r'),
+        5 => line.insert(0, b' '),
+        6 => line.push(random.pick(b" \t\0")),
+        _ => line[at] ^= 0x80,
+    }
+}
+
+/// So many lines: some before the opening, the opening, then lines of which so many in a hundred
+/// are odd.
+pub fn session(random: &mut Random, n: usize, count: usize, odd: usize) -> Vec<u8> {
+    let mut talk = Talk::new(random, n);
+    let mut input = Vec::new();
+    while odd > 0 && random.percent(60) {
+        let early =
+            if random.percent(50) { talk.line(random, odd) } else { refused_opening(random) };
+        input.extend(early);
+        input.push(b'\n');
+    }
+    input.extend(format!("01{n:02x}\n").bytes());
+    for _ in 0..count {
+        input.extend(talk.line(random, odd));
+        input.push(b'\n');
+    }
+    if random.percent(30) {
+        input.pop();
+    }
+    input
+}
+
+fn refused_opening(random: &mut Random) -> Vec<u8> {
+    format!("01{:02x}", random.pick(&[0, 1, 9, 16, 18, 128, 130, 255])).into_bytes()
+}
+
+/// Any bytes, or bytes of which most are digits and newlines.
+pub fn noise(random: &mut Random) -> Vec<u8> {
+    let count = random.below(3000);
+    if random.percent(30) {
+        return random.bytes(count);
+    }
+    let any = random.byte();
+    (0..count)
+        .map(|_| random.pick(&[b'0', b'0', b'0', b'1', b'2', b'3', b'\n', b'\n', any]))
+        .collect()
+}
+
+/// A line with something before it and something after it, in a parlour of 3.
+fn around(line: &[u8]) -> Vec<u8> {
+    [b"0103\n02010012\n030102\n", line, b"\n030203\n0403\n0503\n"].concat()
+}
+
+/// Lines longer than a frame. Their ends look like frames, and so do their lengths to a counter of
+/// 8 or 16 bits.
+pub fn long_lines(random: &mut Random) -> Vec<u8> {
+    let mut input = around(b"");
+    for length in [9, 10, 12, 16, 256, 260, 262, 264, 4096, 65_535, 65_536, 65_540, 65_542, 131_078]
+    {
+        for (start, end) in [("030102", ""), ("", "030102"), ("0403", "0403"), ("02010001", "")] {
+            let middle = length - length.min(start.len() + end.len());
+            input.extend([start.as_bytes(), &digits(random, middle), end.as_bytes()].concat());
+            input.extend(b"\n0401\n");
+        }
+    }
+    input
+}
+
+/// A line of so many digits in the middle of taken ones.
+pub fn huge_line(random: &mut Random, count: usize) -> Vec<u8> {
+    around(&digits(random, count))
+}
+
+/// Each kind with every count of bytes from none to five, each before and after the opening.
+pub fn all_kinds() -> Vec<u8> {
+    let mut input = Vec::new();
+    for opening in ["", "0104\n"] {
+        input.extend(opening.bytes());
+        for kind in (0..=255).filter(|&kind| !opening.is_empty() || kind != 1) {
+            for more in 0..=5 {
+                input.extend(format!("{kind:02x}{}\n", "02".repeat(more)).bytes());
+            }
+        }
+    }
+    input
+}
+
+/// Each two bytes in the place of the last two digits of a line.
+pub fn all_pairs() -> Vec<u8> {
+    let mut input = b"0108\n030801\n030102\n".to_vec();
+    for pair in 0..=u16::MAX {
+        input.extend([b"05", &pair.to_be_bytes()[..], b"\n"].concat());
+    }
+    input
+}
+
+/// Each opening that is refused, and then one that is taken.
+pub fn all_openings(n: usize) -> Vec<u8> {
+    let mut input = Vec::new();
+    for refused in (0..=255).filter(|refused| !(2..=8).contains(refused)) {
+        input.extend(format!("01{refused:02x}\n0401\n").bytes());
+    }
+    for opening in [n, n, 0] {
+        input.extend(format!("01{opening:02x}\n04{n:02x}\n").bytes());
+    }
+    input
+}
+
+/// Each two stalls.
+pub fn all_meetings(n: usize) -> Vec<u8> {
+    let mut input = format!("01{n:02x}\n").into_bytes();
+    for pair in 0..=u16::MAX {
+        input.extend(format!("03{pair:04x}\n").bytes());
+    }
+    input
+}
+
+/// Each yield.
+pub fn all_yields() -> Vec<u8> {
+    let mut input = b"0102\n".to_vec();
+    for new in 0..=u16::MAX {
+        input.extend(format!("0202{new:04x}\n").bytes());
+    }
+    input.extend(b"0402\n030102\n0501");
+    input
+}
