@@ -23,7 +23,7 @@ use Rattle.line.specs.declared.frame.Frame.{Frame}
 use Rattle.line.specs.declared.frame.Frame.the-variants.{Open, Milking, Meeting, Show, Heard, Bad}
 
 -- whoever unfolds this unfolds all that an answer is computed with
-unfoldable answered : Unit {0}
+unfoldable pub answered : Unit {0}
 unfolding flatMap some each bits has markAt nameFrom nameAt heardAt freshImage encode tableOf badCount badLength badYields badDiagonal badUnheard badRow badNames badOrder badMarks checkBody checked common known verdict undecided labelUsed lowestFrom newLabel latestName mergedNames mergedYields mergedOrder merged verdictBytes metTogether metGood metChecked meetingCall milked milkingCall isDigit digitValue allDigits wholePairs pairValue bytesOf digitOf digitsOf kindOfTwo kindOfThree kindOfFour frameOfBytes frameOf imageOf withImage freshSlot freshState opening milking meetingOf meeting showing
 answered = tt
 
@@ -70,7 +70,8 @@ answersTo state (line ∷ l) =
     let reply = replyTo state (isOpen state) (frameOf line) in
     reply .bytes ∷ answersTo (reply .state) l
 
-abbrev shut : List ℕ
+-- no parlour is open
+abbrev pub shut : List ℕ
 shut = replicate stateLength 0
 
 -- the digits are those of the listing
