@@ -22,14 +22,14 @@ pub record Reply : Type 0 where
   pub bytes : List ℕ
   pub state : List ℕ
 
+-- "`00`, then" some bytes where a call answers below 256; else it refuses, with 256 plus the number
+abbrev pub answerBytes : ℕ → List ℕ → List ℕ
+answerBytes answer more = cond (ltb answer 256) (0 ∷ more) ((answer - 256) ∷ [])
+
 module _ (state : List ℕ) where
   -- "or the refusal number": every byte of the state stays
   abbrev pub refusal : ℕ → Reply
   refusal number = record { bytes = number ∷ []; state = state }
-
-  -- "`00`, then" some bytes where a call answers below 256; else it refuses, with 256 plus the number
-  abbrev pub answerBytes : ℕ → List ℕ → List ℕ
-  answerBytes answer more = cond (ltb answer 256) (0 ∷ more) ((answer - 256) ∷ [])
 
   -- 1: N not 2 to 8
   unfoldable pub opening : ℕ → Reply

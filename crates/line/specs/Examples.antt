@@ -70,6 +70,7 @@ answersTo state (line ∷ l) =
     let reply = replyTo state (isOpen state) (frameOf line) in
     reply .bytes ∷ answersTo (reply .state) l
 
+-- no parlour is open
 abbrev pub shut : List ℕ
 shut = replicate stateLength 0
 

@@ -1,10 +1,6 @@
 // The line program: standard input, one frame a line, to standard output, one answer a line.
-ghost use mathlib.Core.Path.{_≡_};
-ghost use Prim.Native.Nat.{_≤_};
-ghost use lib.ListN.{length};
-ghost use Rattle.line.specs.Parlour.{stateLength};
 ghost use Rattle.wilbryn.specs.Session.{BlockTaken};
-ghost use Rattle.wilbryn.specs.Stream.{Buffers, TurnOf, longestLine, room};
+ghost use Rattle.wilbryn.specs.Stream.{Buffers, TurnOf};
 use crate::stream::answer_line;
 use crate::stream::feed;
 use libc::STDIN_FILENO;

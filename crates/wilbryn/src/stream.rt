@@ -4,7 +4,7 @@ ghost use Prim.Native.Nat.{ℕ, _+_, _≤_};
 ghost use mathlib.Core.List.{List, [], _∷_, _++_};
 ghost use lib.ListN.{length, take};
 ghost use Rattle.line.specs.Parlour.{stateLength};
-ghost use Rattle.wilbryn.specs.Stream.{longestLine, room};
+ghost use Rattle.wilbryn.specs.Stream.{longestLine, room, Buffers};
 ghost use Rattle.wilbryn.specs.Session.{Keeps, Answers, LineAnswered};
 
 // How many bytes of the line so far are kept, and where the answers end.
@@ -81,8 +81,7 @@ pub(crate) fn feed(
     input: &[u8],
     out: &mut [u8],
 ) -> Fed
-    requires { ⌜ (length (now state) ≡ stateLength) × (length (now text) ≡ longestLine) × (kept ≤ longestLine) × (room ≤ length (now out)) ⌝ }
-    requires { ⌜ 1 ≤ length (now input) ⌝ }
+    requires { ⌜ Buffers (now state) (now text) kept (now out) × (1 ≤ length (now input)) ⌝ }
     ensures { λ r.
         ⌜ (1 ≤ r .taken) × (r .taken ≤ length (now (input .entry))) × (r .kept ≤ longestLine) × (r .end ≤ length (now (out .entry)))
         × Answers (now (state .entry)) (now (text .entry)) kept (take (r .taken) (now (input .entry))) (now (out .entry)) 0 (r .kept) (r .end) (now (state .exit)) (now (text .exit)) (now (out .exit)) ⌝ }

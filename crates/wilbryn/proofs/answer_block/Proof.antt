@@ -27,7 +27,7 @@ answer-block-spec =
     (λ c. omega arith)
     (λ c. omega arith)
     (λ c. omega arith)
-    (λ c κs. ((omega arith, omega arith, omega arith, omega arith), omega (arith, rest-long (c .before .before .before .before .before .before .before .before .before .before .args .block .now) (c .before .before .before .before .before .loop .at))))
+    (λ c κs. (record { state-long = omega arith; text-long = omega arith; kept-to = omega arith; out-long = omega arith }, omega (arith, rest-long (c .before .before .before .before .before .before .before .before .before .before .args .block .now) (c .before .before .before .before .before .loop .at))))
     (λ c. omega (arith, c .before .before .before .before .before .before .before .feed .ensures .1, rest-long (c .before .before .before .before .before .before .before .before .before .before .before .before .before .before .before .before .before .before .args .block .now) (c .before .before .before .before .before .before .before .before .before .before .before .before .before .loop .at)))
     (λ c. omega (arith, c .before .before .before .before .before .before .before .feed .ensures .3, c .before .before .before .before .before .before .before .feed .kept .1 .1 .1 .1 .0))
     (λ c. sym (length-take-le (c .before .before .before .before .before .before .before .before .feed .result .end) _ (omega (arith, c .before .before .before .before .before .before .before .before .feed .ensures .3, c .before .before .before .before .before .before .before .before .feed .kept .1 .1 .1 .1 .0))))

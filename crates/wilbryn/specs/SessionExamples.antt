@@ -1,0 +1,71 @@
+-- Document 01's listing as a stream of bytes, by evaluation.
+use Prim.Native.Nat.{ℕ}
+use mathlib.Core.Path.{_≡_, refl, sym, subst, _∙_}
+use mathlib.Core.Bool.{Bool, true, false, _&&_, not, true≢false}
+use mathlib.Core.List.{List, [], _∷_, _++_, flatMap, append-nil}
+use borrow.Author.Tests.{eq-eqb}
+use lib.Dec.{eqb}
+use lib.Seq.{append-snoc}
+use Rattle.line.specs.Digits.{digitsOf}
+use Rattle.line.specs.Frame.{frameOf}
+use Rattle.line.specs.Parlour.{isOpen}
+use Rattle.line.specs.Answer.{Reply, opening, milking, meeting, showing, Replies}
+use Rattle.line.specs.Examples.{answered, shut}
+use Rattle.wilbryn.specs.Session.{newline, answerTo, Session, nothing, another, ended}
+
+noNewline : List ℕ → Bool
+noNewline [] = true
+noNewline (b ∷ l) = not (eqb b newline) && noNewline l
+
+-- some bytes of a line
+within : (l : List ℕ) {state line input answers state′ : List ℕ} → noNewline l ≡ true → Session state (line ++ l) input answers state′ → Session state line (l ++ input) answers state′
+unfolding noNewline
+within [] {state} {line} {input} {answers} {state′} e s = subst (λ m. Session state m input answers state′) (append-nil line) s
+within (b ∷ l) {state} {line} {input} {answers} {state′} e s =
+    another (first (eqb b newline) refl e) (within l (rest (eqb b newline) e) (subst (λ m. Session state m input answers state′) (sym (append-snoc line b l)) s))
+  where
+    rest : (t : Bool) → (not t && noNewline l) ≡ true → noNewline l ≡ true
+    rest true f = absurd (true≢false (sym f))
+    rest false f = f
+
+    first : (t : Bool) → eqb b newline ≡ t → (not t && noNewline l) ≡ true → b ≡ newline → ⊥
+    first true g f i = true≢false (sym f)
+    first false g f i = true≢false (sym (eq-eqb b newline i) ∙ g)
+
+-- a whole line
+line-of : (l : List ℕ) {state input answers state′ : List ℕ} (reply : Reply) → noNewline l ≡ true → Replies state (isOpen state) (frameOf l) reply → Session (reply .state) [] input answers state′
+    → Session state [] (l ++ (newline ∷ input)) (answerTo reply ++ answers) state′
+line-of l reply e r s = within l e (ended reply r s)
+
+-- the replies of the listing, in turn
+opened : Reply
+opened = opening shut 3
+
+milked : Reply
+milked = milking (opened .state) 1 0x12
+
+met : Reply
+met = meeting (milked .state) 1 2
+
+met-again : Reply
+met-again = meeting (met .state) 2 3
+
+shown : Reply
+shown = showing (met-again .state) 3
+
+-- "Input and whole output", a newline behind each line
+listing-example : Session shut []
+    (digitsOf (0x01 ∷ 0x03 ∷ []) ++ (newline ∷ digitsOf (0x02 ∷ 0x01 ∷ 0x00 ∷ 0x12 ∷ [])) ++ (newline ∷ digitsOf (0x03 ∷ 0x01 ∷ 0x02 ∷ [])) ++ (newline ∷ digitsOf (0x03 ∷ 0x02 ∷ 0x03 ∷ []))
+    ++ (newline ∷ digitsOf (0x04 ∷ 0x03 ∷ [])) ++ (newline ∷ []))
+    (digitsOf (0x00 ∷ []) ++ (newline ∷ digitsOf (0x00 ∷ [])) ++ (newline ∷ digitsOf (0x00 ∷ 0x00 ∷ 0x00 ∷ 0x00 ∷ 0x00 ∷ [])) ++ (newline ∷ digitsOf (0x00 ∷ 0x00 ∷ 0x01 ∷ 0x01 ∷ 0x00 ∷ []))
+    ++ (newline ∷ digitsOf (0x00 ∷ 0x03 ∷ 0x03 ∷ 0x00 ∷ 0x00 ∷ 0x02 ∷ 0x00 ∷ 0x01 ∷ 0x00 ∷ 0x00 ∷ 0x00 ∷ 0x02 ∷ 0x00 ∷ 0x03 ∷ 0x00 ∷ 0x02 ∷ 0x00
+    ∷ 0x02 ∷ 0x00 ∷ 0x03 ∷ 0x00 ∷ 0x02 ∷ 0x00 ∷ 0x00 ∷ 0x12 ∷ 0x00 ∷ 0x00 ∷ 0x00 ∷ 0x00 ∷ 0x07 ∷ 0x06 ∷ 0x06 ∷ [])) ++ (newline ∷ []))
+    (shown .state)
+unfolding answered noNewline opened milked met met-again shown flatMap
+listing-example =
+    line-of (digitsOf (0x01 ∷ 0x03 ∷ [])) opened refl refl
+    (line-of (digitsOf (0x02 ∷ 0x01 ∷ 0x00 ∷ 0x12 ∷ [])) milked refl refl
+    (line-of (digitsOf (0x03 ∷ 0x01 ∷ 0x02 ∷ [])) met refl refl
+    (line-of (digitsOf (0x03 ∷ 0x02 ∷ 0x03 ∷ [])) met-again refl refl
+    (line-of (digitsOf (0x04 ∷ 0x03 ∷ [])) shown refl refl
+    nothing))))
