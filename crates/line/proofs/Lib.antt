@@ -8,3 +8,4 @@ pub mod MeetingLine
 pub mod HeardLine
 pub mod Lines
 pub mod Refusals
+pub mod Images
