@@ -7,3 +7,5 @@ pub mod Replying
 pub mod MeetingLine
 pub mod HeardLine
 pub mod Lines
+pub mod Refusals
+pub mod Images

@@ -1,0 +1,169 @@
+-- Document 01: "A refusal returns its number alone and changes no lent byte." So does a line: an answer that does not begin with 00 has one byte, and every byte
+-- of the state is as it was, whichever of the calls refused.
+use Prim.Native.Nat.{ℕ, _+_, _-_, _*_, _≤_}
+use mathlib.Core.Path.{_≡_, refl, sym, ap, ap₂, subst, _∙_}
+use mathlib.Core.Bool.{Bool, true, false, _||_, not, cond}
+use mathlib.Core.List.{List, [], _∷_, _++_, append-assoc}
+use native.Mathlib.Omega.{arith}
+use borrow.Author.Tests.{ltb-false}
+use lib.Dec.{ltb, eqb}
+use lib.ListN.{length, getD, take, drop, replicate, take-append-drop, length-drop}
+use lib.Seq.{length-take-le, drop-drop}
+use Rattle.image.specs.Layout.{largest, yieldLimit, lengthOf}
+use Rattle.image.specs.Encode.{tableOf}
+use Rattle.image.specs.Check.{badStall, checked}
+use Rattle.image.specs.declared.Header.{Header}
+use Rattle.image.specs.declared.Checked.{Checked}
+use Rattle.image.specs.declared.Checked.the-variants.{Good, Refused}
+use Rattle.image.proofs.Accepted.{accepted}
+use Rattle.head.specs.Calls.{refused, accepted as done, withCurrent, milked, milkingCall}
+use Rattle.merge.specs.Verdict.{undecided}
+use Rattle.merge.specs.Call.{MeetingOutcome, refusedMeeting, acceptedMeeting, metTogether, metGood, metChecked, meetingCall}
+use Rattle.merge.proofs.NewLabel.{newLabel-limit}
+use Rattle.line.specs.Parlour.{stateLength, headsOf, isCount, isOpen, slotPlace, imageOf, withImage, freshState}
+use Rattle.line.specs.Answer.{Reply, answerBytes, refusal, opening, milkedBy, milking, metBy, meetingOf, meeting, showing, HeardAnswer, Replies}
+use Rattle.line.specs.declared.frame.Frame.{Frame}
+use Rattle.line.specs.declared.frame.Frame.the-variants.{Open, Milking, Meeting, Show, Heard, Bad}
+use Rattle.line.proofs.Slots.{slot-fits}
+use Rattle.line.proofs.Replying.{count-range, stall-of}
+
+-- a call that refuses leaves what it was lent
+milking-keeps : (s : List ℕ) (yield : ℕ) → (milkingCall s yield .answer ≡ 0 → ⊥) → milkingCall s yield .image ≡ s
+unfolding milkingCall milked
+milking-keeps s yield f = go (checked s) f
+  where
+    over : (b : Bool) → (cond b (refused 4 s) (done (withCurrent s yield)) .answer ≡ 0 → ⊥) → cond b (refused 4 s) (done (withCurrent s yield)) .image ≡ s
+    over true g = refl
+    over false g = absurd (g refl)
+
+    go : (x : Checked) → (milked s yield x .answer ≡ 0 → ⊥) → milked s yield x .image ≡ s
+    go (Good h) g = over (ltb yieldLimit yield) g
+    go (Refused number) g = refl
+
+module _ (s u buffer : List ℕ) where
+  abbrev Kept : MeetingOutcome → Type 0
+  Kept o = 256 ≤ o .answer → (o .first ≡ s) × (o .second ≡ u)
+
+  either : (b : Bool) (x y : MeetingOutcome) → Kept x → Kept y → Kept (cond b x y)
+  either true x y p q = p
+  either false x y p q = q
+
+  together-keeps : (n p q : ℕ) → n ≤ largest → Kept (metTogether s u buffer n p q)
+  unfolding metTogether
+  together-keeps n p q l =
+      either (undecided n p (tableOf s n) q (tableOf u n)) (refusedMeeting s u buffer 9) (acceptedMeeting s u buffer n p q) (λ _. (refl, refl))
+      (λ k. absurd (omega (arith, newLabel-limit n p (tableOf s n) q (tableOf u n))))
+
+  good-keeps : (h g : Header) → h .n ≤ largest → Kept (metGood s u buffer h g)
+  unfolding metGood
+  good-keeps h g l =
+      either (not (eqb (h .n) (g .n)) || eqb (h .stall) (g .stall)) (refusedMeeting s u buffer 7) _ (λ _. (refl, refl))
+      (either (not (eqb (length buffer) (h .n))) (refusedMeeting s u buffer 8) (metTogether s u buffer (h .n) (h .stall) (g .stall)) (λ _. (refl, refl))
+      (together-keeps (h .n) (h .stall) (g .stall) l))
+
+  meeting-keeps : Kept (meetingCall s u buffer)
+  unfolding meetingCall metChecked
+  meeting-keeps = go (checked s) (checked u) refl
+    where
+      go : (x y : Checked) → checked s ≡ x → Kept (metChecked s u buffer x y)
+      go (Refused number) y e = λ _. (refl, refl)
+      go (Good h) (Refused number) e = λ _. (refl, refl)
+      go (Good h) (Good g) e = good-keeps h g (accepted s h e .frame .n-to)
+
+-- an image put back where it stands
+module _ (state : List ℕ) (long : length state ≡ stateLength) (opened : isOpen state ≡ true) where
+  put-back : (r : ℕ) → badStall (headsOf state) r ≡ false → withImage state r (imageOf state r) ≡ state
+  unfolding withImage imageOf
+  put-back r e =
+      let (a, b) = count-range (headsOf state) opened in
+      let w = stall-of (headsOf state) r e in
+      let fits = slot-fits (headsOf state) r a b (w .from) (w .to) in
+      let size : length (take (lengthOf (headsOf state)) (drop (slotPlace r) state)) ≡ lengthOf (headsOf state) =
+      length-take-le (lengthOf (headsOf state)) (drop (slotPlace r) state) (omega (arith, length-drop (slotPlace r) state, fits)) in
+      ap (λ k. take (slotPlace r) state ++ take (lengthOf (headsOf state)) (drop (slotPlace r) state) ++ drop (slotPlace r + k) state) size
+      ∙ append-assoc (take (slotPlace r) state) _ _
+      ∙ ap (λ x. take (slotPlace r) state ++ (take (lengthOf (headsOf state)) (drop (slotPlace r) state) ++ x)) (sym (drop-drop (lengthOf (headsOf state)) (slotPlace r) state))
+      ∙ ap (λ x. take (slotPlace r) state ++ x) (take-append-drop (lengthOf (headsOf state)) (drop (slotPlace r) state))
+      ∙ take-append-drop (slotPlace r) state
+
+-- the number alone, and the state as it was
+abbrev Alone : List ℕ → Reply → Type 0
+Alone state reply = (getD (reply .bytes) 0 0 ≡ 0 → ⊥) → (length (reply .bytes) ≡ 1) × (reply .state ≡ state)
+
+module _ (state : List ℕ) where
+  refused-alone : (number : ℕ) → Alone state (refusal state number)
+  refused-alone number f = (refl, refl)
+
+  choice : (b : Bool) (x y : Reply) → (b ≡ true → Alone state x) → (b ≡ false → Alone state y) → Alone state (cond b x y)
+  choice true x y p q = p refl
+  choice false x y p q = q refl
+
+  opening-alone : (n : ℕ) → Alone state (opening state n)
+  unfolding opening
+  opening-alone n = choice (isCount n) (record { bytes = 0 ∷ []; state = freshState n }) (refusal state 1) (λ _ f. absurd (f refl)) (λ _. refused-alone 1)
+
+  showing-alone : (stall : ℕ) → Alone state (showing state stall)
+  unfolding showing
+  showing-alone stall =
+      choice (badStall (headsOf state) stall) (refusal state 3) (record { bytes = 0 ∷ imageOf state stall; state = state }) (λ _. refused-alone 3) (λ _ f. absurd (f refl))
+
+  answer-alone : (count : ℕ) (more : List ℕ) → Alone state (record { bytes = answerBytes count more; state = state })
+  answer-alone count more = go (ltb count 256)
+    where
+      go : (b : Bool) → Alone state (record { bytes = cond b (0 ∷ more) ((count - 256) ∷ []); state = state })
+      go true f = absurd (f refl)
+      go false f = (refl, refl)
+
+  heard-alone : (stall : ℕ) (reply : Reply) (b : Bool) → HeardAnswer state stall reply b → Alone state reply
+  heard-alone stall reply true e = subst (Alone state) (sym e) (refused-alone 3)
+  heard-alone stall reply false w = subst (Alone state) (sym (w .replied)) (answer-alone (w .count) (w .count ∷ take (3 * w .count) (w .records)))
+
+  module _ (long : length state ≡ stateLength) (opened : isOpen state ≡ true) where
+    milking-alone : (stall yield : ℕ) → Alone state (milking state stall yield)
+    unfolding milking
+    milking-alone stall yield =
+        choice (badStall (headsOf state) stall) (refusal state 3) (milkedBy state stall (milkingCall (imageOf state stall) yield)) (λ _. refused-alone 3)
+        (λ e f. (refl, ap (withImage state stall) (milking-keeps (imageOf state stall) yield f) ∙ put-back state long opened stall e))
+
+    met-alone : (p q : ℕ) → badStall (headsOf state) p ≡ false → badStall (headsOf state) q ≡ false → (o : MeetingOutcome) → Kept (imageOf state p) (imageOf state q) [] o
+        → Alone state (metBy state p q o)
+    met-alone p q i j o k = go (ltb (o .answer) 256) refl
+      where
+        go : (b : Bool) → ltb (o .answer) 256 ≡ b
+            → Alone state (record { bytes = cond b (0 ∷ o .answer ∷ o .verdicts) ((o .answer - 256) ∷ []); state = withImage (withImage state p (o .first)) q (o .second) })
+        go true e f = absurd (f refl)
+        go false e f =
+            let (a, c) = k (ltb-false (o .answer) 256 e) in (
+              refl,
+              ap₂ (λ x y. withImage (withImage state p x) q y) a c
+                  ∙ ap (λ s. withImage s q (imageOf state q)) (put-back state long opened p i) ∙ put-back state long opened q j,
+            )
+
+    meeting-alone : (p q : ℕ) → Alone state (meeting state p q)
+    unfolding meeting meetingOf
+    meeting-alone p q =
+        choice (badStall (headsOf state) p) (refusal state 3) _ (λ _. refused-alone 3)
+        (λ i. choice (badStall (headsOf state) q) (refusal state 3) _ (λ _. refused-alone 3)
+        (λ j. choice (eqb p q) (refusal state 7) _ (λ _. refused-alone 7)
+        (λ _. met-alone p q i j (meetingCall (imageOf state p) (imageOf state q) (replicate (headsOf state) 0))
+        (meeting-keeps (imageOf state p) (imageOf state q) (replicate (headsOf state) 0)))))
+
+pub refusal-alone : (state : List ℕ) (frame : Frame) (reply : Reply) → length state ≡ stateLength → Replies state (isOpen state) frame reply → (getD (reply .bytes) 0 0 ≡ 0 → ⊥)
+    → (length (reply .bytes) ≡ 1) × (reply .state ≡ state)
+refusal-alone state frame reply long = go (isOpen state) refl frame
+  where
+    is : (x : Reply) → Alone state x → reply ≡ x → Alone state reply
+    is x a e = subst (Alone state) (sym e) a
+
+    go : (b : Bool) → isOpen state ≡ b → (f : Frame) → Replies state b f reply → Alone state reply
+    go b o Bad r = is (refusal state 10) (refused-alone state 10) r
+    go true o (Open n) r = is (refusal state 11) (refused-alone state 11) r
+    go false o (Open n) r = is (opening state n) (opening-alone state n) r
+    go true o (Milking stall yield) r = is (milking state stall yield) (milking-alone state long o stall yield) r
+    go true o (Meeting p q) r = is (meeting state p q) (meeting-alone state long o p q) r
+    go true o (Show stall) r = is (showing state stall) (showing-alone state stall) r
+    go true o (Heard stall) r = heard-alone state stall reply (badStall (headsOf state) stall) r
+    go false o (Milking stall yield) r = is (refusal state 11) (refused-alone state 11) r
+    go false o (Meeting p q) r = is (refusal state 11) (refused-alone state 11) r
+    go false o (Show stall) r = is (refusal state 11) (refused-alone state 11) r
+    go false o (Heard stall) r = is (refusal state 11) (refused-alone state 11) r
