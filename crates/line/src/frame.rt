@@ -1,13 +1,12 @@
 // A line as a frame.
 ghost use mathlib.Core.Path.{_≡_};
-ghost use Prim.Native.Nat.{_+_, _*_};
-ghost use lib.ListN.{length};
 ghost use mathlib.Core.Bool.{true};
 ghost use Rattle.line.specs.Digits.{allDigits};
 ghost use Rattle.line.specs.Frame.{kindOfTwo, kindOfThree, kindOfFour, frameOf};
 use crate::digits::are_digits;
 use crate::digits::byte_at;
 
+// What a line asks for. A line that is no frame is bad.
 pub enum Frame {
     Open(u8),
     Milking(u8, u16),

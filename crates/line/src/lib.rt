@@ -4,7 +4,7 @@ ghost use mathlib.Core.Bool.{true, false};
 ghost use mathlib.Core.List.{[], _∷_};
 ghost use Prim.Native.Nat.{_+_, _*_, _≤_};
 ghost use lib.ListN.{length};
-ghost use Rattle.line.specs.Parlour.{headsOf, isOpen};
+ghost use Rattle.line.specs.Parlour.{headsOf};
 ghost use Rattle.line.specs.Answer.{opening, milking, meetingOf, meeting, showing, written, Given, Replied, AnswerCall};
 ghost use Rattle.line.specs.Asked.{Ready, Opened, StallOf};
 ghost use Rattle.line.specs.declared.frame.Frame.the-variants.{Heard};
