@@ -4,14 +4,13 @@ use mathlib.Core.Path.{_≡_, refl, sym, ap, _∙_}
 use mathlib.Core.Bool.{Bool, true, false, _&&_, not, cond}
 use mathlib.Core.List.{List, _∷_}
 use native.Mathlib.Omega.{arith}
-use native.Mathlib.Nat.{mul-le-mul}
 use borrow.Author.Tests.{eq-eqb, ne-eqb, le-leb}
 use lib.Dec.{leb, eqb}
 use lib.ListN.{length, take, replicate}
 use Rattle.image.specs.Layout.{largest, lengthOf}
 use Rattle.image.specs.Fresh.{freshImage}
 use Rattle.image.specs.Check.{badStall}
-use Rattle.image.proofs.Stages.{in-range}
+use Rattle.image.proofs.Stages.{in-range, length-range}
 use Rattle.head.specs.Calls.{Outcome, refused, accepted, freshCall}
 
 take-replicate : (k m z : ℕ) → k ≤ m → take k (replicate m z) ≡ replicate k z
@@ -19,11 +18,9 @@ take-replicate zero m z l = refl
 take-replicate (suc k) zero z l = absurd (omega arith)
 take-replicate (suc k) (suc m) z l = ap (λ r. z ∷ r) (take-replicate k m z (omega arith))
 
--- the length of an image of 2 to 8 stalls
-length-range : (n : ℕ) → not (leb 2 n && leb n largest) ≡ false → (2 ≤ lengthOf n) × (lengthOf n ≤ 156)
-length-range n e =
-    let (a, b) = in-range 2 largest n e in
-    rw (le-leb 2 n a, le-leb n largest b) (omega arith, omega (arith, mul-le-mul b b))
+-- the same, by the test
+lengths : (n : ℕ) → not (leb 2 n && leb n largest) ≡ false → (18 ≤ lengthOf n) × (lengthOf n ≤ 156)
+lengths n e = let (a, b) = in-range 2 largest n e in length-range n a b
 
 module _ (s : List ℕ) (n stall : ℕ) where
   pub fresh-1 : not (leb 2 n && leb n largest) ≡ true → refused 1 s ≡ freshCall s n stall
@@ -39,7 +36,7 @@ module _ (s : List ℕ) (n stall : ℕ) where
   fresh-3 a b c = rw (a, eq-eqb (length s) (lengthOf n) b, c)
 
   pub fresh-short : not (leb 2 n && leb n largest) ≡ false → length s ≡ lengthOf n → length s ≤ 156
-  fresh-short a b = rw b (length-range n a .1)
+  fresh-short a b = rw b (lengths n a .1)
 
   cut : (k : ℕ) → 2 ≤ k → k ≤ 156 → take k (n ∷ stall ∷ replicate 154 0) ≡ n ∷ stall ∷ replicate (k - 2) 0
   cut zero a b = absurd (omega arith)
@@ -52,9 +49,9 @@ module _ (s : List ℕ) (n stall : ℕ) where
       → out ≡ take (length s) table → table ≡ n ∷ stall ∷ replicate 154 0 → accepted out ≡ freshCall s n stall
   unfolding freshCall freshImage
   fresh-done out table a b c d e =
-      let (p, q) = length-range n a in
+      let (p, q) = lengths n a in
       rw (a, eq-eqb (length s) (lengthOf n) b, c)
-      (ap accepted (d ∙ ap (take (length s)) e ∙ ap (λ k. take k (n ∷ stall ∷ replicate 154 0)) b ∙ cut (lengthOf n) p q))
+      (ap accepted (d ∙ ap (take (length s)) e ∙ ap (λ k. take k (n ∷ stall ∷ replicate 154 0)) b ∙ cut (lengthOf n) (omega (arith, p)) q))
 
   -- For callers: none of 1 to 3 applies ..
   pub fresh-taken : 2 ≤ n → n ≤ largest → length s ≡ lengthOf n → 1 ≤ stall → stall ≤ n → accepted (freshImage n stall) ≡ freshCall s n stall

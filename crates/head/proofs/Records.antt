@@ -2,28 +2,18 @@
 use Prim.Native.Nat.{ℕ, zero, suc, _+_, _-_, _*_, _≤_}
 use mathlib.Core.Path.{_≡_, refl, sym, ap, ap₂, subst, _∙_}
 use mathlib.Core.Bool.{Bool, true, false, cond}
-use mathlib.Core.List.{List, [], _∷_, _++_, flatMap, append-assoc, append-nil}
+use mathlib.Core.List.{List, [], _∷_, _++_, flatMap, append-nil}
 use native.Mathlib.Omega.{arith}
 use lib.ListN.{length, take, drop, getD, length-append, length-drop}
-use lib.Seq.{take-at, drop-append-add, drop-drop}
 use Rattle.image.specs.declared.Entry.{Entry}
+use Rattle.image.proofs.Has.{flatMap-append, length-flatMap}
+use Rattle.image.proofs.Overwrite.{behind}
 use Rattle.head.specs.HeardOrder.{chosen, heardIn, recordAt, recordsTo}
-
-flatMap-append : (f : ℕ → List ℕ) (l m : List ℕ) → flatMap f (l ++ m) ≡ flatMap f l ++ flatMap f m
-unfolding flatMap
-flatMap-append f [] m = refl
-flatMap-append f (a ∷ l) m = ap (λ r. f a ++ r) (flatMap-append f l m) ∙ sym (append-assoc (f a) (flatMap f l) (flatMap f m))
-
--- each record has three bytes
-length-records : (s : List ℕ) (yields : ℕ) (l : List ℕ) → length (flatMap (recordAt s yields) l) ≡ 3 * length l
-unfolding flatMap
-length-records s yields [] = refl
-length-records s yields (a ∷ l) = length-append (recordAt s yields a) (flatMap (recordAt s yields) l) ∙ omega (arith, length-records s yields l)
 
 module _ (s : List ℕ) (yields : ℕ) (row : List Entry) where
   pub length-recordsTo : (n : ℕ) → length (recordsTo s yields row n) ≡ 3 * length (chosen n (heardIn row))
   unfolding recordsTo
-  length-recordsTo n = length-records s yields (chosen n (heardIn row))
+  length-recordsTo n = length-flatMap 3 (recordAt s yields) (λ r. refl) (chosen n (heardIn row)) ∙ omega arith
 
   -- the next stall, heard or not
   more-heard : (n : ℕ) → heardIn row (suc n) ≡ true → recordsTo s yields row (suc n) ≡ recordsTo s yields row n ++ recordAt s yields (suc n)
@@ -51,12 +41,6 @@ pub recorded-start : (s : List ℕ) (yields : ℕ) (row : List Entry) (d : List 
 unfolding recordsTo chosen flatMap
 recorded-start s yields row d n =
     record { from = omega arith; to = omega arith; stands = omega arith; ends = refl; few = omega arith; so-far = refl; long = refl }
-
--- one record behind the others
-behind : (p d x : List ℕ) (at : ℕ) → at ≡ length p → take at (p ++ drop at d) ++ x ++ drop (at + 3) (p ++ drop at d) ≡ p ++ x ++ drop (at + 3) d
-behind p d x at e =
-    ap₂ (λ a b. a ++ x ++ b) (take-at p (drop at d) at (sym e))
-    (ap (λ k. drop (k + 3) (p ++ drop at d)) e ∙ drop-append-add p (drop at d) 3 ∙ drop-drop 3 at d)
 
 -- what is written, and the rest, is as long as before
 whole-length : (p d : List ℕ) (at : ℕ) → at ≡ length p → at ≤ length d → length (p ++ drop at d) ≡ length d
@@ -96,7 +80,7 @@ module _ (s : List ℕ) (yields : ℕ) (row : List Entry) (d out : List ℕ) (n 
       rebuild (at + 3) out′
       (omega (arith, ap length more, length-append (R k) (recordAt s yields (suc k)), end))
       (omega (arith, w .few))
-      (j ∙ ap₂ (λ o x. take at o ++ x ++ drop (at + 3) o) sofar the-record ∙ behind (R k) d (recordAt s yields (suc k)) at end ∙ ap (λ r. r ++ drop (at + 3) d) (sym more))
+      (j ∙ ap₂ (λ o x. take at o ++ x ++ drop (at + 3) o) sofar the-record ∙ behind (R k) d (recordAt s yields (suc k)) at 3 (sym end) ∙ ap (λ r. r ++ drop (at + 3) d) (sym more))
 
   next-unheard : heardIn row (suc k) ≡ false → (out′ : List ℕ) → out′ ≡ out → Recorded s yields row d out′ n at (y + 2) (suc k + 1)
   next-unheard e out′ j =

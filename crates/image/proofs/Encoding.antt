@@ -17,6 +17,7 @@ use Rattle.image.specs.declared.Name.{Name}
 use Rattle.image.specs.declared.Name.the-variants.{Never, With}
 use Rattle.image.proofs.Bits.{has-ext, has-bits, bits-lt}
 use Rattle.image.proofs.Tables.{none-at}
+use Rattle.image.proofs.Passing.{or-fails}
 use Rattle.image.proofs.Places.{row-within}
 use Rattle.image.proofs.Has.{Has, has-place, has-self, has-whole, has-first, has-one, has-two, has-left, has-right, has-zeros, has-both, length-each, has-each, each-has}
 
@@ -206,8 +207,7 @@ word-has : (s : List ℕ) (i : ℕ) → i + 1 < length s → getD s (i + 1) 0 < 
 word-has s i l b = has-two (word s i / 256) (word s i % 256) l (omega arith) (omega arith)
 
 or-left : (a b : Bool) → (a || b) ≡ false → a ≡ false
-or-left true b e = e
-or-left false b e = refl
+or-left a b e = or-fails a b .0 e .0
 
 -- no label without a partner, so the name of two bytes has these bytes
 none-none : (p l : ℕ) → (eqb p 0 && not (eqb l 0)) ≡ false → p ≡ 0 → l ≡ 0

@@ -1,11 +1,11 @@
 -- What bytes stand in a list from a place on: of lists put together, and of blocks of one width.
 use Prim.Native.Nat.{ℕ, zero, suc, _+_, _-_, _*_, _≤_, _<_}
-use mathlib.Core.Path.{_≡_, sym, ap, subst, _∙_}
-use mathlib.Core.List.{List, [], _∷_, _++_}
+use mathlib.Core.Path.{_≡_, refl, sym, ap, subst, _∙_}
+use mathlib.Core.List.{List, [], _∷_, _++_, flatMap, append-assoc}
 use native.Mathlib.Omega.{arith}
 use native.Mathlib.Decide.{decLe, decLt}
-use lib.ListN.{length, getD, length-append, List·getD-append, replicate, length-replicate, getD-replicate}
-use lib.Seq.{getD-append-add, ext-getD}
+use lib.ListN.{length, getD, take, drop, length-drop, length-append, List·getD-append, replicate, length-replicate, getD-replicate}
+use lib.Seq.{length-take-le, getD-take, getD-drop, getD-append-add, ext-getD}
 use Rattle.image.specs.Stalls.{each}
 
 -- the bytes l stand in s from place i on
@@ -84,7 +84,27 @@ has-zeros {s} {i} m h j k a b =
           ∙ sym (getD-replicate k q 0 0 (omega arith));
     }
 
+-- bytes that stand in a list are that part of it
+pub has-part : {s l : List ℕ} {i : ℕ} → Has s i l → take (length l) (drop i s) ≡ l
+has-part {s} {l} {i} h =
+    let long = length-take-le (length l) (drop i s) (omega (arith, h .fits, length-drop i s)) in
+    ext-getD 0 (take (length l) (drop i s)) l long
+    (λ k a.
+    let b : k < length l = omega (arith, long) in
+    getD-take (length l) (drop i s) k 0 b ∙ getD-drop i s k 0 ∙ h .byte k b)
+
+-- blocks one after the other
+pub flatMap-append : (f : ℕ → List ℕ) (l m : List ℕ) → flatMap f (l ++ m) ≡ flatMap f l ++ flatMap f m
+unfolding flatMap
+flatMap-append f [] m = refl
+flatMap-append f (a ∷ l) m = ap (λ r. f a ++ r) (flatMap-append f l m) ∙ sym (append-assoc (f a) (flatMap f l) (flatMap f m))
+
 -- blocks of one width
+pub length-flatMap : (w : ℕ) (f : ℕ → List ℕ) → ((r : ℕ) → length (f r) ≡ w) → (l : List ℕ) → length (flatMap f l) ≡ length l * w
+unfolding flatMap
+length-flatMap w f wide [] = omega arith
+length-flatMap w f wide (a ∷ l) = length-append (f a) (flatMap f l) ∙ omega (arith, length-flatMap w f wide l, wide a)
+
 module _ (w : ℕ) (f : ℕ → List ℕ) (wide : (r : ℕ) → length (f r) ≡ w) where
   pub length-each : (n : ℕ) → length (each n f) ≡ n * w
   unfolding each

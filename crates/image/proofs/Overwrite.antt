@@ -1,12 +1,12 @@
 -- A list overwritten from the front, element by element.
 use Prim.Native.Nat.{ℕ, _+_, _≤_, _<_}
-use mathlib.Core.Path.{_≡_, ap, _∙_}
+use mathlib.Core.Path.{_≡_, sym, ap, ap₂, _∙_}
 use mathlib.Core.List.{List, _++_, append-nil}
 use native.Mathlib.Omega.{arith}
 use native.Mathlib.Nat.{zero-add}
 use native.Mathlib.Numerals.{add-one}
 use lib.ListN.{length, getD, take, drop, set}
-use lib.Seq.{paste-suc, drop-length}
+use lib.Seq.{paste-suc, drop-length, take-at, drop-append-add, drop-drop}
 
 -- one byte more
 pub overwrite-next : (d t image : List ℕ) (i : ℕ) → i < length d → i < length t → image ≡ take i t ++ drop i d → set image i (getD t i 0) ≡ take (i + 1) t ++ drop (i + 1) d
@@ -16,3 +16,9 @@ overwrite-next d t image i a b e = rw (add-one, e) (simp zero-add at (paste-suc 
 pub overwrite-end : (d t image : List ℕ) (i : ℕ) → length d ≤ i → i ≤ length d → image ≡ take i t ++ drop i d → image ≡ take (length d) t
 overwrite-end d t image i a b e =
     e ∙ ap (λ k. take k t ++ drop k d) (let j : i ≡ length d = omega arith in j) ∙ ap (λ r. take (length d) t ++ r) (drop-length d) ∙ append-nil _
+
+-- more of d overwritten behind what is written
+pub behind : (p d x : List ℕ) (at k : ℕ) → length p ≡ at → take at (p ++ drop at d) ++ x ++ drop (at + k) (p ++ drop at d) ≡ p ++ x ++ drop (at + k) d
+behind p d x at k e =
+    ap₂ (λ a b. a ++ x ++ b) (take-at p (drop at d) at e)
+    (ap (λ j. drop (j + k) (p ++ drop at d)) (sym e) ∙ drop-append-add p (drop at d) k ∙ drop-drop k at d)

@@ -1,7 +1,7 @@
 -- What it is to pass a test, as a statement: `simp passing` turns one into the other.
 use Prim.Native.Nat.{ℕ, zero, suc, _≤_}
 use mathlib.Core.Path.{_≡_, refl, sym, ap₂, _∙_}
-use mathlib.Core.Bool.{Bool, true, false, _&&_, _||_, not, true≢false, false≢true}
+use mathlib.Core.Bool.{Bool, true, false, _&&_, _||_, not, cond, true≢false, false≢true}
 use mathlib.Core.Logic.{_↔_, _⊎_, inl, inr}
 use native.Mathlib.Omega.{arith}
 use borrow.Author.Tests.{le-ltb, ltb-false, le-leb, leb-true, eq-eqb, eqb-true, ne-eqb, eqb-false}
@@ -9,6 +9,11 @@ use lib.Dec.{leb, ltb, eqb}
 use Rattle.image.specs.Stalls.{some}
 use Rattle.image.proofs.Bits.{Found, at, nowhere, some-found}
 use Rattle.image.proofs.Tables.{none-at}
+
+-- what holds of both holds of the one that a test picks
+pub either : {A : Type 0} (P : A → Type 0) (b : Bool) {x y : A} → P x → P y → P (cond b x y)
+either P true p q = p
+either P false p q = q
 
 pub or-fails : (a b : Bool) → ((a || b) ≡ false) ↔ ((a ≡ false) × (b ≡ false))
 or-fails true b = (λ e. absurd (true≢false e), λ e. e .0)

@@ -4,6 +4,7 @@ use mathlib.Core.Path.{_≡_, refl, ap, _∙_}
 use mathlib.Core.Bool.{Bool, true, false, _&&_, not, cond, true≢false}
 use mathlib.Core.List.{List}
 use native.Mathlib.Omega.{arith}
+use native.Mathlib.Nat.{mul-le-mul}
 use borrow.Author.Tests.{leb-true, le-leb, eq-eqb, ne-eqb}
 use lib.Dec.{leb}
 use lib.ListN.{length, getD}
@@ -14,6 +15,10 @@ use Rattle.image.specs.declared.Checked.{Checked}
 use Rattle.image.specs.declared.Checked.the-variants.{Good, Refused}
 
 -- a range test that did not fail
+-- the length of an image of 2 to 8 stalls
+pub length-range : (n : ℕ) → 2 ≤ n → n ≤ largest → (18 ≤ lengthOf n) × (lengthOf n ≤ 156)
+length-range n a b = rw (le-leb 2 n a, le-leb n largest b) (omega (arith, mul-le-mul a a), omega (arith, mul-le-mul b b))
+
 pub in-range : (a b x : ℕ) → not (leb a x && leb x b) ≡ false → (a ≤ x) × (x ≤ b)
 in-range a b x e = go (leb a x) (leb x b) refl refl e
   where

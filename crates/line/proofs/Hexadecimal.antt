@@ -9,7 +9,9 @@ use native.Mathlib.Decide.{decLe}
 use borrow.Author.Tests.{le-leb, lt-leb}
 use lib.Dec.{leb}
 use lib.ListN.{length, getD, take, drop, set, length-append, take-append-drop, drop-of-length-le}
-use lib.Seq.{drop-cons, take-suc, take-length, take-at, drop-append-add, drop-drop, length-take-le, sets-eq}
+use lib.Seq.{drop-cons, take-suc, take-length, length-take-le, sets-eq}
+use Rattle.image.proofs.Has.{flatMap-append, length-flatMap}
+use Rattle.image.proofs.Overwrite.{behind}
 use Rattle.line.specs.Digits.{isDigit, digitValue, allDigits, pairOf, digitsOf}
 
 -- no digit stands below 48, from 58 to 96, or above 102
@@ -90,24 +92,16 @@ store-two d at x y l = let a : at + 1 ≡ suc at = omega arith in rw a (sets-eq 
 
 -- the digits of bytes in a row
 pub digits-append : (l m : List ℕ) → digitsOf (l ++ m) ≡ digitsOf l ++ digitsOf m
-unfolding digitsOf flatMap
-digits-append [] m = refl
-digits-append (a ∷ l) m = ap (λ r. pairOf a ++ r) (digits-append l m) ∙ sym (append-assoc (pairOf a) (digitsOf l) (digitsOf m))
+unfolding digitsOf
+digits-append l m = flatMap-append pairOf l m
 
 pub digits-one : (a : ℕ) → digitsOf (a ∷ []) ≡ pairOf a
 unfolding digitsOf flatMap
 digits-one a = refl
 
 pub length-digits : (l : List ℕ) → length (digitsOf l) ≡ 2 * length l
-unfolding digitsOf flatMap
-length-digits [] = refl
-length-digits (a ∷ l) = omega (arith, length-digits l)
-
--- more of d overwritten behind what is written
-pub behind : (p d x : List ℕ) (at k : ℕ) → length p ≡ at → take at (p ++ drop at d) ++ x ++ drop (at + k) (p ++ drop at d) ≡ p ++ x ++ drop (at + k) d
-behind p d x at k e =
-    ap₂ (λ a b. a ++ x ++ b) (take-at p (drop at d) at e)
-    (ap (λ j. drop (j + k) (p ++ drop at d)) (sym e) ∙ drop-append-add p (drop at d) k ∙ drop-drop k at d)
+unfolding digitsOf
+length-digits l = length-flatMap 2 pairOf (λ r. refl) l ∙ omega arith
 
 -- d with the digits of the first i bytes from a place on
 pub digitsTo : List ℕ → ℕ → List ℕ → ℕ → List ℕ

@@ -10,15 +10,11 @@ use lib.Seq.{length-take-le, take-at, drop-at, getD-take, getD-drop, getD-append
 use Rattle.image.specs.Stalls.{each}
 use Rattle.image.specs.Layout.{largest, lengthOf}
 use Rattle.image.specs.Fresh.{freshImage}
-use Rattle.image.proofs.Has.{Has, has-self, has-left, has-right, has-each}
+use Rattle.image.proofs.Has.{has-part, Has, has-self, has-left, has-right, has-each}
+use Rattle.image.proofs.Stages.{length-range}
 use Rattle.line.specs.Parlour.{slotLength, stateLength, headsOf, slotPlace, imageOf, withImage, freshSlot, freshState}
 use Rattle.line.specs.Asked.{StallOf}
-use Rattle.line.proofs.Slots.{length-range, slot-fits, length-slot}
-
-has-part : {s l : List ℕ} {i : ℕ} → Has s i l → take (length l) (drop i s) ≡ l
-has-part {s} {l} {i} h =
-    let long : length (take (length l) (drop i s)) ≡ length l = length-take-le (length l) (drop i s) (omega (arith, length-drop i s, h .fits)) in
-    ext-getD 0 (take (length l) (drop i s)) l long (λ k p. getD-take (length l) (drop i s) k 0 (omega arith) ∙ getD-drop i s k 0 ∙ h .byte k (omega arith))
+use Rattle.line.proofs.Slots.{slot-fits, length-slot}
 
 -- an opened parlour has the fresh image of each stall
 module _ (n r : ℕ) (from : 2 ≤ n) (to : n ≤ largest) (good : StallOf n r) where

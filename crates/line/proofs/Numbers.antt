@@ -2,7 +2,7 @@
 use Prim.Native.Nat.{ℕ, _-_, _*_, _≤_, _<_}
 use mathlib.Core.Path.{_≡_, refl, sym, ap, _∙_}
 use mathlib.Core.Bool.{Bool, true, false, _||_, not, cond}
-use mathlib.Core.List.{List, [], _∷_, flatMap}
+use mathlib.Core.List.{List, flatMap}
 use native.Mathlib.Omega.{arith}
 use borrow.Author.Tests.{eqb-true}
 use lib.Dec.{ltb, eqb}
@@ -13,6 +13,8 @@ use Rattle.image.specs.Check.{checked}
 use Rattle.image.specs.declared.Header.{Header}
 use Rattle.image.specs.declared.Checked.{Checked}
 use Rattle.image.specs.declared.Checked.the-variants.{Good, Refused}
+use Rattle.image.proofs.Has.{length-flatMap}
+use Rattle.image.proofs.Passing.{either}
 use Rattle.image.proofs.Stages.{refused-le}
 use Rattle.image.proofs.Accepted.{accepted}
 use Rattle.head.specs.Calls.{Outcome, milked, milkingCall}
@@ -39,22 +41,21 @@ milking-code s yield e = omega (arith, ap (λ (o : Outcome). o .answer) e, milki
 
 -- a meeting answers its label, or 256 plus a number up to 9
 module _ (s u buffer : List ℕ) where
-  either : (b : Bool) (x y : MeetingOutcome) → x .answer ≤ 265 → y .answer ≤ 265 → cond b x y .answer ≤ 265
-  either true x y p q = p
-  either false x y p q = q
+  abbrev Small : MeetingOutcome → Type 0
+  Small o = o .answer ≤ 265
 
   together-number : (n p q : ℕ) → n ≤ largest → metTogether s u buffer n p q .answer ≤ 265
   unfolding metTogether
   together-number n p q l =
-      either (undecided n p (tableOf s n) q (tableOf u n)) (refusedMeeting s u buffer 9) (acceptedMeeting s u buffer n p q)
+      either Small (undecided n p (tableOf s n) q (tableOf u n)) {x = refusedMeeting s u buffer 9} {y = acceptedMeeting s u buffer n p q}
       (omega arith)
       (omega (arith, newLabel-limit n p (tableOf s n) q (tableOf u n)))
 
   good-number : (h g : Header) → h .n ≤ largest → metGood s u buffer h g .answer ≤ 265
   unfolding metGood
   good-number h g l =
-      either (not (eqb (h .n) (g .n)) || eqb (h .stall) (g .stall)) (refusedMeeting s u buffer 7) _ (omega arith)
-      (either (not (eqb (length buffer) (h .n))) (refusedMeeting s u buffer 8) (metTogether s u buffer (h .n) (h .stall) (g .stall)) (omega arith)
+      either Small (not (eqb (h .n) (g .n)) || eqb (h .stall) (g .stall)) {x = refusedMeeting s u buffer 7} (omega arith)
+      (either Small (not (eqb (length buffer) (h .n))) {x = refusedMeeting s u buffer 8} {y = metTogether s u buffer (h .n) (h .stall) (g .stall)} (omega arith)
       (together-number (h .n) (h .stall) (g .stall) l))
 
   pub meeting-number : meetingCall s u buffer .answer ≤ 265
@@ -71,15 +72,10 @@ module _ (s u buffer : List ℕ) where
   meeting-code e = omega (arith, ap (λ (o : MeetingOutcome). o .answer) e, meeting-number)
 
 -- a heard list answers its count, or 256 plus a number up to 8
-length-records : (s : List ℕ) (n : ℕ) (l : List ℕ) → length (flatMap (recordOf s n) l) ≡ 3 * length l
-unfolding flatMap
-length-records s n [] = refl
-length-records s n (a ∷ l) = length-append (recordOf s n a) (flatMap (recordOf s n) l) ∙ omega (arith, length-records s n l)
-
 module _ (s buffer out : List ℕ) (n answer : ℕ) (long : length buffer ≡ 3 * n) (same : length out ≡ length buffer) where
   count-le : {m own : ℕ} → 3 * n ≡ 3 * m → HeardList s m own answer out → answer ≤ n
   count-le {m} e w =
-      omega (arith, ap length (w .written), length-append (flatMap (recordOf s m) (w .stalls)) (replicate (3 * m - 3 * answer) 0), length-records s m (w .stalls), length-replicate {A = ℕ} (3 * m - 3 * answer) 0, w .counted)
+      omega (arith, ap length (w .written), length-append (flatMap (recordOf s m) (w .stalls)) (replicate (3 * m - 3 * answer) 0), length-flatMap 3 (recordOf s m) (λ r. refl) (w .stalls), length-replicate {A = ℕ} (3 * m - 3 * answer) 0, w .counted)
 
   pub heard-number : n ≤ largest → HeardCall s buffer answer out → (answer ≤ 264) × (answer < 256 → answer ≤ n)
   heard-number l w = go (checked s) refl (w .heard)

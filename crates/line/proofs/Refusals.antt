@@ -15,6 +15,7 @@ use Rattle.image.specs.Check.{badStall, checked}
 use Rattle.image.specs.declared.Header.{Header}
 use Rattle.image.specs.declared.Checked.{Checked}
 use Rattle.image.specs.declared.Checked.the-variants.{Good, Refused}
+use Rattle.image.proofs.Passing.{either}
 use Rattle.image.proofs.Accepted.{accepted}
 use Rattle.head.specs.Calls.{refused, accepted as done, withCurrent, milked, milkingCall}
 use Rattle.merge.specs.Verdict.{undecided}
@@ -44,21 +45,17 @@ module _ (s u buffer : List ℕ) where
   abbrev Kept : MeetingOutcome → Type 0
   Kept o = 256 ≤ o .answer → (o .first ≡ s) × (o .second ≡ u)
 
-  either : (b : Bool) (x y : MeetingOutcome) → Kept x → Kept y → Kept (cond b x y)
-  either true x y p q = p
-  either false x y p q = q
-
   together-keeps : (n p q : ℕ) → n ≤ largest → Kept (metTogether s u buffer n p q)
   unfolding metTogether
   together-keeps n p q l =
-      either (undecided n p (tableOf s n) q (tableOf u n)) (refusedMeeting s u buffer 9) (acceptedMeeting s u buffer n p q) (λ _. (refl, refl))
+      either Kept (undecided n p (tableOf s n) q (tableOf u n)) {x = refusedMeeting s u buffer 9} {y = acceptedMeeting s u buffer n p q} (λ _. (refl, refl))
       (λ k. absurd (omega (arith, newLabel-limit n p (tableOf s n) q (tableOf u n))))
 
   good-keeps : (h g : Header) → h .n ≤ largest → Kept (metGood s u buffer h g)
   unfolding metGood
   good-keeps h g l =
-      either (not (eqb (h .n) (g .n)) || eqb (h .stall) (g .stall)) (refusedMeeting s u buffer 7) _ (λ _. (refl, refl))
-      (either (not (eqb (length buffer) (h .n))) (refusedMeeting s u buffer 8) (metTogether s u buffer (h .n) (h .stall) (g .stall)) (λ _. (refl, refl))
+      either Kept (not (eqb (h .n) (g .n)) || eqb (h .stall) (g .stall)) {x = refusedMeeting s u buffer 7} (λ _. (refl, refl))
+      (either Kept (not (eqb (length buffer) (h .n))) {x = refusedMeeting s u buffer 8} {y = metTogether s u buffer (h .n) (h .stall) (g .stall)} (λ _. (refl, refl))
       (together-keeps (h .n) (h .stall) (g .stall) l))
 
   meeting-keeps : Kept (meetingCall s u buffer)

@@ -10,13 +10,14 @@ use Rattle.image.specs.Layout.{largest, lengthOf}
 use Rattle.image.specs.Check.{badStall}
 use Rattle.image.proofs.Stages.{in-range}
 use Rattle.head.specs.Calls.{Outcome, milkingCall}
+use Rattle.image.proofs.Stages.{length-range}
+use Rattle.image.proofs.Overwrite.{behind}
 use Rattle.line.specs.Digits.{pairOf, digitsOf}
 use Rattle.line.specs.Parlour.{slotLength, headsOf, isCount, slotPlace, imageOf, withImage, freshState}
 use Rattle.line.specs.Answer.{Reply, refusal, opening, milkedBy, milking, Replies, written, Given, Replied}
 use Rattle.line.specs.declared.frame.Frame.{Frame}
 use Rattle.line.specs.Asked.{Opened, StallOf}
-use Rattle.line.proofs.Hexadecimal.{digits-one, digits-append, length-digits, behind}
-use Rattle.line.proofs.Slots.{length-range}
+use Rattle.line.proofs.Hexadecimal.{digits-one, digits-append, length-digits}
 
 -- what is written, and more behind it
 pub written-one : (out : List ℕ) (b : ℕ) (x : List ℕ) → x ≡ take 0 out ++ pairOf b ++ drop (0 + 2) out → x ≡ written out (b ∷ [])

@@ -3,7 +3,6 @@ use Prim.Native.Nat.{ℕ, _+_, _-_, _*_, _≤_, _<_}
 use mathlib.Core.Path.{_≡_, sym, ap, _∙_}
 use mathlib.Core.List.{List, [], _∷_, _++_, append-nil}
 use native.Mathlib.Omega.{arith}
-use native.Mathlib.Nat.{mul-le-mul}
 use native.Mathlib.Numerals.{add-one}
 use native.Mathlib.Decide.{decLe}
 use borrow.Author.Tests.{le-leb, lt-leb}
@@ -13,11 +12,8 @@ use Rattle.merge.proofs.Written.{blocks, blocks-next, length-each-to}
 use Rattle.image.specs.Stalls.{each}
 use Rattle.image.specs.Layout.{largest, lengthOf}
 use Rattle.image.specs.Fresh.{freshImage}
+use Rattle.image.proofs.Stages.{length-range}
 use Rattle.line.specs.Parlour.{slotLength, stateLength, slotPlace, freshSlot, freshState}
-
--- the length of an image of 2 to 8 stalls
-pub length-range : (n : ℕ) → 2 ≤ n → n ≤ largest → (18 ≤ lengthOf n) × (lengthOf n ≤ slotLength)
-length-range n a b = rw (le-leb 2 n a, le-leb n largest b) (omega (arith, mul-le-mul a a), omega (arith, mul-le-mul b b))
 
 -- the image of a stall lies within the state
 pub slot-fits : (n r : ℕ) → 2 ≤ n → n ≤ largest → 1 ≤ r → r ≤ n → slotPlace r + lengthOf n ≤ stateLength

@@ -3,7 +3,7 @@
 -- number in two hexadecimal digits (ten is `0a`). Order: 10, 11, then 1, 3, 4, 7. An empty line is 10. An opening refused with 1 opens nothing."
 use Prim.Native.Nat.{ℕ, _-_, _*_}
 use mathlib.Core.Path.{_≡_}
-use mathlib.Core.Bool.{Bool, true, false, _&&_, not, cond}
+use mathlib.Core.Bool.{Bool, true, false, _&&_, cond}
 use mathlib.Core.List.{List, [], _∷_, _++_}
 use lib.Dec.{leb, ltb, eqb}
 use lib.ListN.{length, take, drop, replicate}

@@ -5,14 +5,14 @@ use mathlib.Core.Bool.{Bool, true, false, _||_, not, cond}
 use mathlib.Core.List.{List, [], _∷_, _++_}
 use native.Mathlib.Omega.{arith}
 use lib.Dec.{eqb}
-use lib.ListN.{length, getD, take, drop, length-drop}
-use lib.Seq.{length-take-le, take-suc, getD-take, getD-drop, ext-getD}
+use lib.ListN.{length, getD, take, drop}
+use lib.Seq.{take-suc}
 use Rattle.image.specs.Stalls.{each, bits}
 use Rattle.image.specs.Layout.{rowPlace, namePlace, yieldPlace}
 use Rattle.image.specs.Encode.{Table, nameBytes, wordBytes, encode, tableOf}
 use Rattle.image.specs.declared.Name.{Name}
 use Rattle.image.specs.declared.Name.the-variants.{Never, With}
-use Rattle.image.proofs.Has.{Has, has-first, each-has, length-each}
+use Rattle.image.proofs.Has.{Has, has-part, has-first, each-has, length-each}
 use Rattle.image.proofs.Places.{row-within}
 use Rattle.image.proofs.Encoding.{Shows, name-wide, encode-shows}
 use Rattle.image.proofs.Accepted.{Accepted, accepted-encode}
@@ -51,15 +51,6 @@ choose : {A : Type 0} (h : A → List ℕ) {f g : A} {x y : List ℕ} (t : Bool)
 choose h true d e = d
 choose h false d e = e
 
--- bytes that stand in a list are that part of it
-has-part : {d : List ℕ} {i : ℕ} (l : List ℕ) → Has d i l → take (length l) (drop i d) ≡ l
-has-part {d} {i} l h =
-    let long = length-take-le (length l) (drop i d) (omega (arith, h .fits, length-drop i d)) in
-    ext-getD 0 (take (length l) (drop i d)) l long
-    (λ k a.
-    let b : k < length l = omega (arith, long) in
-    getD-take (length l) (drop i d) k 0 b ∙ getD-drop i d k 0 ∙ h .byte k b)
-
 has-pair : {d : List ℕ} {i : ℕ} (x y : ℕ) → Has d i (x ∷ y ∷ []) → pairAt d i ≡ x ∷ y ∷ []
 has-pair x y h = ap₂ (λ a b. a ∷ b ∷ []) (has-first h (omega arith)) (h .byte 1 (omega arith))
 
@@ -73,7 +64,7 @@ module _ (d : List ℕ) (n own : ℕ) (w : Accepted d n own) (bytes : (k : ℕ) 
   shown = subst (λ l. Shows l n own (tableOf d n)) (accepted-encode w bytes) (encode-shows n own (tableOf d n))
 
   start-part : take 4 d ≡ n ∷ own ∷ wordBytes (tableOf d n .current)
-  start-part = has-part (n ∷ own ∷ wordBytes (tableOf d n .current)) (shown .start)
+  start-part = has-part (shown .start)
 
   current-pair : pairAt d 2 ≡ wordBytes (tableOf d n .current)
   unfolding tableOf
@@ -90,7 +81,7 @@ module _ (d : List ℕ) (n own : ℕ) (w : Accepted d n own) (bytes : (k : ℕ) 
       let name : ℕ → List ℕ = λ c. nameBytes (tableOf d n .names r c) in
       let wide : (c : ℕ) → length (name c) ≡ 2 = λ c. name-wide (tableOf d n .names r c) in
       ap (λ k. take k (drop (rowPlace n r) d)) (sym (length-each 2 name wide n))
-      ∙ has-part (each n name) (each-has 2 name wide n (omega (arith, row-within i j, w .frame .long)) (λ c. shown .names r c i j))
+      ∙ has-part (each-has 2 name wide n (omega (arith, row-within i j, w .frame .long)) (λ c. shown .names r c i j))
 
 module _ (s u : List ℕ) (n p q : ℕ) (a : Accepted s n p) (b : Accepted u n q) (s-bytes : (k : ℕ) → getD s k 0 < 256) (u-bytes : (k : ℕ) → getD u k 0 < 256)
     (k : ℕ) (k-is : k ≡ newLabel n p (tableOf s n) q (tableOf u n))

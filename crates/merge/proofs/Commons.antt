@@ -1,7 +1,7 @@
 -- A meeting that is named in column c can stand in another own row only in column c and in its partner's: two looks find it.
 use Prim.Native.Nat.{ℕ, _≤_, _<_}
 use mathlib.Core.Path.{_≡_, refl, sym, ap, ap₂, subst, _∙_}
-use mathlib.Core.Bool.{Bool, true, false, _&&_, _||_, or-true, false≢true}
+use mathlib.Core.Bool.{Bool, true, false, _&&_, _||_, false≢true}
 use mathlib.Core.Logic.{_⊎_, inl, inr}
 use mathlib.Core.List.{List}
 use native.Mathlib.Omega.{arith}
@@ -12,6 +12,7 @@ use Rattle.image.specs.declared.Name.{Name}
 use Rattle.image.specs.declared.Name.the-variants.{Never, With}
 use Rattle.image.specs.declared.Entry.{Entry}
 use Rattle.image.proofs.Bits.{Found, at, nowhere, some-found}
+use Rattle.image.proofs.Passing.{or-holds}
 use Rattle.merge.specs.Known.{sameMeeting, partnerIn, common}
 use Rattle.merge.specs.Rows.{nameIn, lookIn}
 
@@ -59,12 +60,6 @@ look-none row n c x d g =
       | no a ↦ ap (sameMeeting c x d) (look-low row n d (omega arith)) ∙ same-never c x d
     ]
 
-or-left : (x y : Bool) → x ≡ true → (x || y) ≡ true
-or-left x y e = ap (λ t. t || y) e
-
-or-right : (x y : Bool) → y ≡ true → (x || y) ≡ true
-or-right x y e = ap (λ t. x || t) e ∙ or-true x
-
 module _ (mine theirs : List Entry) (n c : ℕ) (from : 1 ≤ c) (to : c ≤ n) where
   -- the two looks: in column c, and in the partner's
   abbrev here : Bool
@@ -81,8 +76,8 @@ module _ (mine theirs : List Entry) (n c : ℕ) (from : 1 ≤ c) (to : c ≤ n) 
   looks : (t : Bool) → Found n (λ d. sameMeeting c (nameIn mine c) d (nameIn theirs d)) t → (here || there) ≡ t
   looks t (at d p q e) =
       elim (columns c (nameIn mine c) d (nameIn theirs d) e) [
-        | inl i ↦ or-left here there (found d p q e c i)
-        | inr i ↦ or-right here there (found d p q e (partnerIn (nameIn mine c)) i)
+        | inl i ↦ or-holds here there .1 (inl (found d p q e c i))
+        | inr i ↦ or-holds here there .1 (inr (found d p q e (partnerIn (nameIn mine c)) i))
       ]
   looks t (nowhere g) =
       ap₂ _||_ (look-none theirs n c (nameIn mine c) c g) (look-none theirs n c (nameIn mine c) (partnerIn (nameIn mine c)) g)

@@ -2,7 +2,7 @@
 -- v gives the verdict on each stall.
 use Prim.Native.Nat.{ℕ}
 use mathlib.Core.Path.{_≡_}
-use mathlib.Core.Bool.{Bool, _&&_, _||_, not, cond}
+use mathlib.Core.Bool.{Bool, _&&_, not, cond}
 use lib.Bits.{bitAnd, bitOr}
 use mathlib.Core.List.{List}
 use lib.Dec.{eqb}
