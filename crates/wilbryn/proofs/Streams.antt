@@ -12,7 +12,8 @@ use Rattle.line.specs.Digits.{digitsOf}
 use Rattle.line.specs.Frame.{frameOf}
 use Rattle.line.specs.Parlour.{stateLength, isOpen}
 use Rattle.line.specs.Answer.{Replies, longestAnswer, written, Replied, AnswerIn, AnswerCall}
-use Rattle.line.proofs.Hexadecimal.{length-digits, behind}
+use Rattle.image.proofs.Overwrite.{behind}
+use Rattle.line.proofs.Hexadecimal.{length-digits}
 use Rattle.wilbryn.specs.Stream.{longestLine, room}
 use Rattle.wilbryn.specs.Session.{newline, answerTo, Session, nothing, another, ended, lineAfter, Keeps, Answers, LineAnswered, Taken}
 use Rattle.wilbryn.proofs.Answers.{part-room}
