@@ -17,7 +17,7 @@ use Rattle.parlour.specs.Theory.{Items, RunOf}
 some-loan : Loan
 some-loan = record { place = (0, 0); name = 0 }
 
-fresh-call : (n p : ℕ) → 2 ≤ n → n ≤ largest → 1 ≤ p → p ≤ n → FreshCall (replicate (lengthOf n) 0) n p 0 (freshImage n p)
+pub fresh-call : (n p : ℕ) → 2 ≤ n → n ≤ largest → 1 ≤ p → p ≤ n → FreshCall (replicate (lengthOf n) 0) n p 0 (freshImage n p)
 fresh-call n p i j k l =
     record {
       lifetimes = ([], tt);
@@ -25,10 +25,10 @@ fresh-call n p i j k l =
       learnt = fresh-taken (replicate (lengthOf n) 0) n p i j (length-replicate {A = ℕ} (lengthOf n) 0) k l;
     }
 
-milking-call : (image : List ℕ) (yield : ℕ) → MilkingCall image yield (milkingCall image yield .answer) (milkingCall image yield .image)
+pub milking-call : (image : List ℕ) (yield : ℕ) → MilkingCall image yield (milkingCall image yield .answer) (milkingCall image yield .image)
 milking-call image yield = record { lifetimes = ([], tt); loan = some-loan; learnt = refl }
 
-meeting-call : (first second buffer : List ℕ)
+pub meeting-call : (first second buffer : List ℕ)
     → let o = meetingCall first second buffer in MeetingCall first second buffer (o .answer) (o .first) (o .second) (o .verdicts)
 meeting-call first second buffer = record { lifetimes = ([], ([], ([], tt))); one = some-loan; other = some-loan; third = some-loan; learnt = refl }
 

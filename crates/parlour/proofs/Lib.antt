@@ -10,6 +10,7 @@ pub mod Kept
 pub mod Put
 pub mod Milkings
 pub mod Meetings
+pub mod Splits
 pub mod Runs
 pub mod Existence
 pub mod Theory

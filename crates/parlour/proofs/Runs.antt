@@ -27,6 +27,7 @@ use Rattle.parlour.specs.Table.{nameIn}
 use Rattle.parlour.specs.Run.{Images, Called, Run, start, milk, meet}
 use Rattle.parlour.specs.Claim.{CallClaim, items, read, Claim}
 use Rattle.parlour.specs.Verdict.{acceptedItems, BestVerdicts, VerdictsAreBest}
+use Rattle.parlour.proofs.Splits.{of-newest, of-none}
 use Rattle.parlour.proofs.Says.{own-names}
 use Rattle.parlour.proofs.Kept.{Kept, fresh-kept, kept-says}
 use Rattle.parlour.proofs.Milkings.{milking-claim, milking-kept}
@@ -38,29 +39,15 @@ run-kept (start i j buffers images calls) = fresh-kept i j buffers images calls
 run-kept (milk run stall y answer image i j call) = milking-kept (run-kept run) stall y answer image i j call
 run-kept (meet run p q answer buffer first second verdicts i j k l f call) = meeting-kept (run-kept run) p q answer buffer first second verdicts i j k l f call
 
--- a call of a list is its newest or one of the rest
-of-newest : (P : Called → List Called → Type 0) (d : Called) (calls : List Called) (c : Called) (earlier : List Called) → P d calls
-    → ((later : List Called) → calls ≡ later ++ (c ∷ earlier) → P c earlier)
-    → (later : List Called) → d ∷ calls ≡ later ++ (c ∷ earlier) → P c earlier
-of-newest P d calls c earlier x f [] e =
-    let i : d ≡ c = cc in
-    let j : calls ≡ earlier = cc in
-    subst₂ P i j x
-of-newest P d calls c earlier x f (y ∷ later) e = f later (let j : calls ≡ later ++ (c ∷ earlier) = cc in j)
-
-of-none : (c : Called) (earlier later : List Called) → [] ≡ later ++ (c ∷ earlier) → ⊥
-of-none c earlier [] e = let z : _≡_ {A = ℕ} 0 1 = cc in omega arith
-of-none c earlier (d ∷ later) e = let z : _≡_ {A = ℕ} 0 1 = cc in omega arith
-
 -- what is claimed of each call
 run-claim : {n : ℕ} {calls : List Called} {images : Images} → Run n calls images → (c : Called) (earlier later : List Called) → calls ≡ later ++ (c ∷ earlier)
     → CallClaim n c (history n (items earlier))
 run-claim (start i j buffers images calls) c earlier later e = absurd (of-none c earlier later e)
 run-claim {n} (milk {calls = calls} run stall y answer image i j call) c earlier later e =
-    of-newest (λ d rest. CallClaim n d (history n (items rest))) _ calls c earlier
+    of-newest c earlier (λ d rest. CallClaim n d (history n (items rest))) _ calls
     (milking-claim (run-kept run) stall y answer image i j call) (λ rest d. run-claim run c earlier rest d) later e
 run-claim {n} (meet {calls = calls} run p q answer buffer first second verdicts i j k l f call) c earlier later e =
-    of-newest (λ d rest. CallClaim n d (history n (items rest))) _ calls c earlier
+    of-newest c earlier (λ d rest. CallClaim n d (history n (items rest))) _ calls
     (meeting-claim (run-kept run) p q answer buffer first second verdicts i j k l f call) (λ rest d. run-claim run c earlier rest d) later e
 
 -- a name of an own row, read from the bytes, is the name of the latest
