@@ -1,8 +1,7 @@
 # Sourced by test and bench. Enters the repository root and sets: out, where build products go; lib,
 # the library to link (the proved one, or what WILBRYN_LIB names); meeting, the word that adds the
 # meetings if the library exports them; program, the line program (the proved one, or what
-# WILBRYN_PROGRAM names); compile, the C compiler and its words; rust,
-# the Rust compiler.
+# WILBRYN_PROGRAM names); compile, the C compiler and its words; rust, the Rust compiler.
 lib=${WILBRYN_LIB:+$(realpath "$WILBRYN_LIB")}
 program=${WILBRYN_PROGRAM:+$(realpath "$WILBRYN_PROGRAM")}
 cd "$(dirname "${BASH_SOURCE[0]}")/.."
