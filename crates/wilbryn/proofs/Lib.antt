@@ -1,4 +1,3 @@
 -- The lemmas of `wilbryn`.
-pub mod Answers
-pub mod Sessions
-pub mod Streams
+pub mod Turns
+pub mod Runs

@@ -1,4 +1,2 @@
 -- What a reader has to believe of `wilbryn`.
-pub mod Stream
-pub mod Session
-pub mod SessionExamples
+pub mod Turn

@@ -10,7 +10,7 @@ use lib.Seq.{length-take-le}
 use Rattle.line.specs.Digits.{digitsOf}
 use Rattle.line.specs.Parlour.{stateLength}
 use Rattle.line.specs.Answer.{longestAnswer, written, AnswerIn, AnswerCall}
-use Rattle.wilbryn.specs.Stream.{room}
+use Rattle.stream.specs.Call.{room}
 use Rattle.line.proofs.Hexadecimal.{length-digits}
 
 length-written : (out bytes : List ℕ) → length (written out bytes) ≡ 2 * length bytes + (length out - 2 * length bytes)
@@ -34,7 +34,3 @@ pub length-put : (out x : List ℕ) (at : ℕ) → at + room ≤ length out → 
 length-put out x at l e =
     length-append (take at out) (x ++ drop (at + 314 - at) (drop at out))
     ∙ omega (arith, length-take-le at out (omega arith), length-append x (drop (at + 314 - at) (drop at out)), length-drop (at + 314 - at) (drop at out), length-drop at out)
-
--- what is left of a block
-pub rest-long : (block : List ℕ) (at : ℕ) → length (take (length block - at) (drop at block)) ≡ length block - at
-rest-long block at = length-take-le (length block - at) (drop at block) (omega (arith, length-drop at block))

@@ -1,11 +1,11 @@
 -- The answer to a line, and a newline.
 use mathlib.Core.Path.{_∙_}
 use native.Mathlib.Omega.{arith}
-use Rattle.wilbryn.proofs.Answers.{count-within, part-room, length-put}
-use Rattle.wilbryn.proofs.Streams.{line-answered}
+use Rattle.stream.proofs.Answers.{count-within, part-room, length-put}
+use Rattle.stream.proofs.Buffers.{line-answered}
 use borrow.Author.Needs.{needs}
-use Rattle.wilbryn.proofs.stream.answer_line.Statement.{statement}
-use Rattle.wilbryn.proofs.stream.answer_line.Tie as tie
+use Rattle.stream.proofs.answer_line.Statement.{statement}
+use Rattle.stream.proofs.answer_line.Tie as tie
 
 pub answer-line-spec : {M : Type 1} → statement M
 answer-line-spec =

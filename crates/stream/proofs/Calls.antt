@@ -1,0 +1,54 @@
+-- The functions of `stream`, by the lengths of what they are lent.
+use Prim.Native.Nat.{ℕ, _≤_}
+use mathlib.Core.Path.{_≡_, refl, sym, subst, _∙_}
+use mathlib.Core.Bool.{Bool, true, false, _&&_}
+use mathlib.Core.List.{List}
+use borrow.Author.Tests.{eq-eqb, eqb-true, le-leb, leb-true}
+use lib.Dec.{leb, eqb}
+use lib.ListN.{length, take}
+use Rattle.image.proofs.Passing.{and-holds}
+use Rattle.line.specs.Parlour.{stateLength}
+use Rattle.stream.specs.Kept.{longestLine}
+use Rattle.stream.specs.Call.{room, isReady, Ready, Taken, FeedIn, FeedCall, LastAnswers, FinishIn, FinishCall}
+use Rattle.stream.specs.declared.Fed.{Fed}
+
+module _ {state text : List ℕ} {kept : ℕ} {out : List ℕ} where
+  -- the test and the facts
+  pub ready : isReady state text kept out ≡ true → Ready state text kept out
+  unfolding isReady
+  ready e =
+      let (abc, d) = and-holds (eqb (length state) stateLength && eqb (length text) longestLine && leb kept longestLine) (leb room (length out)) .0 e in
+      let (ab, c) = and-holds (eqb (length state) stateLength && eqb (length text) longestLine) (leb kept longestLine) .0 abc in
+      let (a, b) = and-holds (eqb (length state) stateLength) (eqb (length text) longestLine) .0 ab in
+      record {
+        state-long = eqb-true (length state) stateLength a;
+        text-long = eqb-true (length text) longestLine b;
+        kept-to = leb-true kept longestLine c;
+        out-long = leb-true room (length out) d;
+      }
+
+  pub is-ready : Ready state text kept out → isReady state text kept out ≡ true
+  unfolding isReady
+  is-ready w =
+      rw (eq-eqb (length state) stateLength (w .state-long), eq-eqb (length text) longestLine (w .text-long), le-leb kept longestLine (w .kept-to), le-leb room (length out) (w .out-long))
+
+  module _ {block : List ℕ} {fed : Fed} {state′ text′ out′ : List ℕ} where
+    pub feed-taken : isReady state text kept out ≡ true → Taken state text kept block out fed state′ text′ out′ → FeedCall state text kept block out fed state′ text′ out′
+    feed-taken e w = record { fed-is = subst (FeedIn state text kept block out fed state′ text′ out′) (sym e) w }
+
+    -- what a caller with the right runs learns
+    pub taken-of : Ready state text kept out → FeedCall state text kept block out fed state′ text′ out′ → Taken state text kept block out fed state′ text′ out′
+    taken-of r w = subst (FeedIn state text kept block out fed state′ text′ out′) (is-ready r) (w .fed-is)
+
+  pub feed-nothing : {block : List ℕ} → isReady state text kept out ≡ false → FeedCall state text kept block out (record { taken = 0; kept = kept; end = 0 }) state text out
+  feed-nothing {block} e = record { fed-is = subst (FeedIn state text kept block out _ state text out) (sym e) (refl, refl, refl, refl) }
+
+  module _ {end : ℕ} {state′ out′ : List ℕ} where
+    pub finish-last : isReady state text kept out ≡ true → LastAnswers state (take kept text) out end state′ out′ → FinishCall state text kept out end state′ out′
+    finish-last e w = record { finished = subst (FinishIn state text kept out end state′ out′) (sym e) w }
+
+    pub last-of : Ready state text kept out → FinishCall state text kept out end state′ out′ → LastAnswers state (take kept text) out end state′ out′
+    last-of r w = subst (FinishIn state text kept out end state′ out′) (is-ready r) (w .finished)
+
+  pub finish-nothing : isReady state text kept out ≡ false → FinishCall state text kept out 0 state out
+  finish-nothing e = record { finished = subst (FinishIn state text kept out 0 state out) (sym e) (refl, refl, refl) }
