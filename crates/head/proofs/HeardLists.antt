@@ -81,6 +81,54 @@ occurrences-chosen r (suc n) f =
           ∙ add-zero _ ∙ ap (λ t. cond (leb 1 r && (t && f r)) 1 0) (same-test r n e)
     ]
 
+-- A list in which each of 1 to n is at most once, and no other number
+
+-- 1 where a test holds
+abbrev one : Bool → ℕ
+one t = cond t 1 0
+
+-- how many elements of a list are 1 to n
+among : ℕ → List ℕ → ℕ
+among zero l = 0
+among (suc n) l = among n l + occurrences (suc n) l
+
+among-cons : (n a : ℕ) (l : List ℕ) → among n (a ∷ l) ≡ among n l + one (leb 1 a && leb a n)
+unfolding among occurrences
+among-cons zero zero l = refl
+among-cons zero (suc a) l = rw (lt-leb (suc a) 0 (omega arith), and-false (leb 1 (suc a)))
+among-cons (suc n) a l =
+    elim (ℕ-discrete (suc n) a) [
+      | yes e ↦
+          let here : one (eqb (suc n) a) ≡ 1 = rw (eq-eqb (suc n) a e) in
+          let last : one (leb 1 a && leb a (suc n)) ≡ 1 = rw (le-leb 1 a (omega arith), le-leb a (suc n) (omega arith)) in
+          let before : one (leb 1 a && leb a n) ≡ 0 = rw (le-leb 1 a (omega arith), lt-leb a n (omega arith)) in
+          omega (arith, among-cons n a l)
+      | no e ↦
+          let other : one (eqb (suc n) a) ≡ 0 = rw (ne-eqb (suc n) a e) in
+          let same : one (leb 1 a && leb a n) ≡ one (leb 1 a && leb a (suc n)) = ap (λ t. one (leb 1 a && t)) (same-test a n (λ i. e (sym i))) in
+          omega (arith, among-cons n a l)
+    ]
+
+module _ (n : ℕ) where
+  abbrev Once : List ℕ → Type 0
+  Once l = (r : ℕ) → occurrences r l ≤ one (leb 1 r && leb r n)
+
+  once-among : (l : List ℕ) → Once l → length l ≤ among n l
+  unfolding occurrences
+  once-among [] f = omega arith
+  once-among (a ∷ l) f =
+      let here : one (eqb a a) ≡ 1 = rw (eq-eqb a a refl) in
+      omega (arith, once-among l (λ r. omega (arith, f r)), among-cons n a l, f a)
+
+  once-few : (k : ℕ) (l : List ℕ) → Once l → among k l ≤ k
+  unfolding among
+  once-few zero l f = omega arith
+  once-few (suc k) l f = omega (arith, once-few k l f, f (suc k), one-most (leb 1 (suc k) && leb (suc k) n))
+    where
+      one-most : (t : Bool) → one t ≤ 1
+      one-most true = omega arith
+      one-most false = omega arith
+
 -- The own row says who was heard
 
 named : (p l : ℕ) → not (isNever (nameFrom p l)) ≡ not (eqb p 0)
@@ -129,3 +177,20 @@ module _ (s : List ℕ) (n own m : ℕ) (row : List Entry) (d mid out : List ℕ
         written = outs ∙ ap₂ (λ a k. a ++ replicate k 0) front rest;
         counted = third;
       }
+
+-- no more records than stalls
+pub heard-few : {s : List ℕ} {n own count : ℕ} {out : List ℕ} → HeardList s n own count out → count ≤ n
+heard-few {s} {n} {own} w =
+    let once : Once n (w .stalls) = λ r. omega (arith, w .each-once r, less (leb 1 r) (leb r n) (heardAt s n own r)) in
+    omega (arith, w .counted, once-among n (w .stalls) once, once-few n n (w .stalls) once)
+  where
+    less : (a b c : Bool) → one (a && (b && c)) ≤ one (a && b)
+    less true true true = omega arith
+    less true true false = omega arith
+    less true false c = omega arith
+    less false b c = omega arith
+
+-- every image has a heard list
+pub list-exists : (s : List ℕ) (n own : ℕ) → HeardList s n own (length (chosen n (heardAt s n own)))
+    (flatMap (recordOf s n) (chosen n (heardAt s n own)) ++ replicate (3 * n - 3 * length (chosen n (heardAt s n own))) 0)
+list-exists s n own = record { stalls = chosen n (heardAt s n own); each-once = λ r. occurrences-chosen r n (heardAt s n own); written = refl; counted = refl }

@@ -14,7 +14,7 @@ use Rattle.parlour.specs.Run.{start, milk, meet}
 use Rattle.parlour.specs.Theory.{Items, RunOf}
 
 -- some loan: no contract looks at where a run lies
-some-loan : Loan
+pub some-loan : Loan
 some-loan = record { place = (0, 0); name = 0 }
 
 pub fresh-call : (n p : ℕ) → 2 ≤ n → n ≤ largest → 1 ≤ p → p ≤ n → FreshCall (replicate (lengthOf n) 0) n p 0 (freshImage n p)

@@ -1,15 +1,19 @@
 -- One line: what it is answered, and what it leaves.
-use Prim.Native.Nat.{ℕ, _-_, _*_}
+use Prim.Native.Nat.{ℕ, _-_, _*_, _<_}
 use mathlib.Core.Path.{_≡_, refl, sym, ap, ap₂, subst, _∙_}
 use mathlib.Core.Bool.{Bool, true, false, cond, true≢false}
 use mathlib.Core.List.{List, [], _∷_, _++_}
-use borrow.Author.Tests.{eq-eqb, eqb-true, eqb-false, le-leb}
+use native.Mathlib.Omega.{arith}
+use borrow.Author.Tests.{eq-eqb, eqb-true, eqb-false, le-leb, lt-ltb}
 use lib.Dec.{leb, eqb}
 use lib.ListN.{length, take, replicate, length-replicate}
 use Rattle.image.specs.Layout.{largest, yieldLimit}
 use Rattle.image.specs.Check.{badStall}
+use Rattle.image.proofs.Accepted.{checked-accepted}
 use Rattle.head.specs.Calls.{milkingCall}
-use Rattle.head.specs.Heard.{HeardCall}
+use Rattle.head.specs.Heard.{HeardList}
+use Rattle.head.proofs.HeardLists.{heard-few}
+use Rattle.head.proofs.HeardCalls.{heard-accepted}
 use Rattle.merge.specs.Call.{meetingCall}
 use Rattle.line.specs.Parlour.{headsOf, isCount, imageOf, withImage, freshState}
 use Rattle.line.specs.Answer.{Reply, refusal, answerBytes, opening, milkedBy, milking, meetingOf, meeting, showing, HeardAnswer as LineHeard, Replies}
@@ -24,7 +28,7 @@ use Rattle.parlour.proofs.Milkings.{milking-claim, milking-kept}
 use Rattle.parlour.proofs.Meetings.{meeting-claim, meeting-kept}
 use Rattle.parlour.proofs.Existence.{milking-call, meeting-call}
 use Rattle.sessions.specs.Lines.{opens, itemsOf}
-use Rattle.sessions.specs.Claim.{Answer}
+use Rattle.sessions.specs.Answer.{Answer}
 use Rattle.sessions.proofs.Standing.{Open as IsOpen, kept-agree, kept-long, put-own, put-other, put-agree, placed, is-open, opened}
 
 -- while a parlour is open
@@ -96,12 +100,15 @@ module _ (its : List Item.Item) (state : List ℕ) (w : IsOpen (history (headsOf
       go true e d = subst (Step (Heard stall)) (sym d) (stay (Heard stall) (3 ∷ []) refl (rw (count, e) refl))
       go false e d =
           let i = stall-of n stall e in
+          let good = w .kept .good stall (i .from) (i .to) in
+          let list = heard-accepted (imageOf state stall) (replicate (3 * n) 0) (checked-accepted good) (length-replicate {A = ℕ} (3 * n) 0) (d .heard) in
+          let few : d .count < 256 = omega (arith, heard-few list, w .kept .n-to) in
           subst (Step (Heard stall)) (sym (d .replied))
           (stay (Heard stall) (answerBytes (d .count) (d .count ∷ take (3 * d .count) (d .records))) refl (rw (count, e) (record {
             count = d .count;
             records = d .records;
-            heard = subst (λ s. HeardCall s (replicate (3 * n) 0) (d .count) (d .records)) (w .kept .is stall (i .from) (i .to)) (d .heard);
-            bytes-are = refl;
+            heard = subst (λ s. HeardList s n stall (d .count) (d .records)) (w .kept .is stall (i .from) (i .to)) list;
+            bytes-are = rw (lt-ltb (d .count) 256 few);
           })))
 
   -- a meeting of two stalls that are there

@@ -1,4 +1,8 @@
 -- The lemmas of `sessions`.
 pub mod Standing
 pub mod Answers
+pub mod Stands
+pub mod Replying
+pub mod Calls
+pub mod Inputs
 pub mod Theory

@@ -1,89 +1,13 @@
--- Every session, by one induction over its lines.
-use Prim.Native.Nat.{ℕ, _≤_}
-use mathlib.Core.Path.{_≡_, refl, sym, ap, subst, subst₂, _∙_}
-use mathlib.Core.Bool.{Bool, true, false, true≢false}
-use mathlib.Core.List.{List, [], _∷_, _++_}
-use Rattle.parlour.specs.Item.{history}
-use Rattle.parlour.specs.Table.{imageAfter}
-use Rattle.parlour.proofs.Splits.{of-newest, of-none}
-use Rattle.line.specs.Frame.{frameOf}
-use Rattle.line.specs.Parlour.{headsOf, isCount, isOpen, imageOf}
-use Rattle.line.specs.Answer.{Reply, Replies}
-use Rattle.sessions.specs.Lines.{opens, heads, itemsOf, items}
-use Rattle.sessions.specs.Session.{Answered, Session, begun, answered}
-use Rattle.sessions.specs.Claim.{Answer, lines, historyOf, Claim}
-use Rattle.sessions.proofs.Standing as standing
-use Rattle.sessions.proofs.Answers.{open-step, Shut, shut-step}
+-- The theorems of `specs/Theory.antt` hold.
+use Rattle.line.proofs.answer.Met as answer
+use Rattle.stream.proofs.feed.Met as feed
+use Rattle.stream.proofs.finish.Met as finish
+use Rattle.sessions.specs.Theory.{Theory, Returns}
+use Rattle.sessions.proofs.Calls.{claim, sessions-exist}
+use Rattle.sessions.proofs.Inputs.{blocks, runs, blocks-exist}
 
--- how the state stands after some lines
-pub data Stands (ls : List (List ℕ)) (state : List ℕ) : Type 0 where
-  shut : isCount (heads ls) ≡ false → isOpen state ≡ false → items ls ≡ [] → Stands ls state
-  open-to : isCount (heads ls) ≡ true → headsOf state ≡ heads ls → standing.Open (historyOf ls) state → Stands ls state
+pub theory : Theory
+theory = record { claim = claim; sessions-exist = sessions-exist; blocks = blocks; runs = runs; blocks-exist = blocks-exist }
 
--- one line more
-pub record Next (ls : List (List ℕ)) (line : List ℕ) (reply : Reply) : Type 0 where
-  pub answer : Answer (heads ls) (historyOf ls) (frameOf line) (reply .bytes)
-  pub stands : Stands (line ∷ ls) (reply .state)
-
-module _ (ls : List (List ℕ)) (state line : List ℕ) (reply : Reply) where
-  -- an open parlour stays open
-  next-open : isCount (heads ls) ≡ true → headsOf state ≡ heads ls → standing.Open (historyOf ls) state → Replies state (isOpen state) (frameOf line) reply
-      → Next ls line reply
-  unfolding heads items
-  next-open a b w r =
-      let before = subst (λ k. standing.Open (history k (items ls)) state) (sym b) w in
-      let step = open-step (items ls) state before (frameOf line) reply (subst (λ t. Replies state t (frameOf line) reply) (ap isCount b ∙ a) r) in
-      let same : heads (line ∷ ls) ≡ heads ls = rw a in
-      let more : items (line ∷ ls) ≡ itemsOf (heads ls) (frameOf line) ++ items ls = rw a in
-      record {
-        answer = subst (λ k. Answer k (history k (items ls)) (frameOf line) (reply .bytes)) b (step .answer);
-        stands = open-to (ap isCount same ∙ a) (step .heads ∙ b ∙ sym same)
-            (subst₂ (λ k i. standing.Open (history k i) (reply .state)) (sym same) (sym more)
-            (subst (λ k. standing.Open (history k (itemsOf k (frameOf line) ++ items ls)) (reply .state)) b (step .after)));
-      }
-
-  next-shut : isCount (heads ls) ≡ false → isOpen state ≡ false → items ls ≡ [] → Replies state (isOpen state) (frameOf line) reply → Next ls line reply
-  unfolding heads items history
-  next-shut a b c r =
-      let step = shut-step state (heads ls) a (frameOf line) reply (subst (λ t. Replies state t (frameOf line) reply) b r) in
-      record {
-        answer = subst (λ i. Answer (heads ls) (history (heads ls) i) (frameOf line) (reply .bytes)) (sym c) (step .answer);
-        stands = go (isCount (opens (frameOf line))) refl step;
-      }
-    where
-      now : heads (line ∷ ls) ≡ opens (frameOf line)
-      now = rw a
-
-      none : items (line ∷ ls) ≡ []
-      none = rw a
-
-      go : (t : Bool) → isCount (opens (frameOf line)) ≡ t → Shut state (heads ls) a (frameOf line) reply → Stands (line ∷ ls) (reply .state)
-      go true e s =
-          open-to (ap isCount now ∙ e) (s .heads e ∙ sym now)
-          (subst (λ i. standing.Open (history (heads (line ∷ ls)) i) (reply .state)) (sym none) (s .opened e))
-      go false e s = shut (ap isCount now ∙ e) (ap isOpen (s .same e) ∙ b) none
-
-  next : Stands ls state → Replies state (isOpen state) (frameOf line) reply → Next ls line reply
-  next (shut a b c) r = next-shut a b c r
-  next (open-to a b w) r = next-open a b w r
-
-stands : {done : List Answered} {state : List ℕ} → Session done state → Stands (lines done) state
-unfolding heads items
-stands begun = shut refl refl refl
-stands (answered {done = done} {state = state} s line reply r) = next (lines done) state line reply (stands s) r .stands
-
-each : {done : List Answered} {state : List ℕ} → Session done state → (c : Answered) (earlier later : List Answered) → done ≡ later ++ (c ∷ earlier)
-    → Answer (heads (lines earlier)) (historyOf (lines earlier)) (frameOf (c .line)) (c .reply .bytes)
-each begun c earlier later e = absurd (of-none c earlier later e)
-each (answered {done = done} {state = state} s line reply r) c earlier later e =
-    of-newest c earlier (λ d rest. Answer (heads (lines rest)) (historyOf (lines rest)) (frameOf (d .line)) (d .reply .bytes)) _ done
-    (next (lines done) state line reply (stands s) r .answer) (λ rest d. each s c earlier rest d) later e
-
-images : {ls : List (List ℕ)} {state : List ℕ} → Stands ls state → isCount (heads ls) ≡ true → (p : ℕ) → 1 ≤ p → p ≤ heads ls
-    → imageOf state p ≡ imageAfter (heads ls) (historyOf ls) p
-images (shut a b c) e p i j = absurd (true≢false (sym e ∙ a))
-images {ls} {state} (open-to a b w) e p i j =
-    w .kept .is p i (subst (λ k. p ≤ k) (sym b) j) ∙ ap (λ k. imageAfter k (historyOf ls) p) b
-
-pub theory : (done : List Answered) (state : List ℕ) → Session done state → Claim done state
-theory done state s = record { each-answer = each s; images = images (stands s) }
+pub returns : Returns
+returns = record { answer = answer.met; feed = feed.met; finish = finish.met }

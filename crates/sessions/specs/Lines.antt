@@ -9,7 +9,7 @@ use Rattle.line.specs.Frame.{frameOf}
 use Rattle.line.specs.Parlour.{isCount}
 use Rattle.line.specs.declared.frame.Frame.{Frame}
 use Rattle.line.specs.declared.frame.Frame.the-variants.{Open, Milking, Meeting, Show, Heard, Bad}
-use Rattle.parlour.specs.Item.{Item, milking, meeting}
+use Rattle.parlour.specs.Item.{Item, milking, meeting, history}
 
 -- how many heads a line opens a parlour of, 0 for none
 unfoldable pub opens : Frame → ℕ
@@ -38,3 +38,7 @@ itemsOf n Bad = []
 unfoldable pub items : List (List ℕ) → List Item
 items [] = []
 items (line ∷ earlier) = cond (isCount (heads earlier)) (itemsOf (heads earlier) (frameOf line) ++ items earlier) []
+
+-- the history that lines leave
+abbrev pub historyOf : List (List ℕ) → List Item
+historyOf ls = history (heads ls) (items ls)

@@ -1,0 +1,83 @@
+-- How the state stands after some lines, and after one more.
+use Prim.Native.Nat.{ℕ, _≤_}
+use mathlib.Core.Path.{_≡_, refl, sym, ap, subst, subst₂, _∙_}
+use mathlib.Core.Bool.{Bool, true, false, true≢false}
+use mathlib.Core.List.{List, [], _∷_, _++_}
+use lib.ListN.{length}
+use Rattle.parlour.specs.Item.{history}
+use Rattle.parlour.specs.Table.{imageAfter}
+use Rattle.line.specs.Frame.{frameOf}
+use Rattle.line.specs.Parlour.{stateLength, headsOf, isCount, isOpen, imageOf}
+use Rattle.line.specs.Answer.{Reply, Replies}
+use Rattle.stream.specs.Stream.{emptyState}
+use Rattle.sessions.specs.Lines.{opens, heads, itemsOf, items, historyOf}
+use Rattle.sessions.specs.Answer.{Answer}
+use Rattle.sessions.specs.Claim.{ImagesOf}
+use Rattle.sessions.proofs.Standing as standing
+use Rattle.sessions.proofs.Answers.{open-step, Shut, shut-step}
+
+-- how the state stands after some lines
+pub data Stands (ls : List (List ℕ)) (state : List ℕ) : Type 0 where
+  shut : length state ≡ stateLength → isCount (heads ls) ≡ false → isOpen state ≡ false → items ls ≡ [] → Stands ls state
+  open-to : isCount (heads ls) ≡ true → headsOf state ≡ heads ls → standing.Open (historyOf ls) state → Stands ls state
+
+-- one line more
+pub record Next (ls : List (List ℕ)) (line : List ℕ) (reply : Reply) : Type 0 where
+  pub answer : Answer (heads ls) (historyOf ls) (frameOf line) (reply .bytes)
+  pub stands : Stands (line ∷ ls) (reply .state)
+
+module _ (ls : List (List ℕ)) (state line : List ℕ) (reply : Reply) where
+  -- an open parlour stays open
+  next-open : isCount (heads ls) ≡ true → headsOf state ≡ heads ls → standing.Open (historyOf ls) state → Replies state (isOpen state) (frameOf line) reply
+      → Next ls line reply
+  unfolding heads items
+  next-open a b w r =
+      let before = subst (λ k. standing.Open (history k (items ls)) state) (sym b) w in
+      let step = open-step (items ls) state before (frameOf line) reply (subst (λ t. Replies state t (frameOf line) reply) (ap isCount b ∙ a) r) in
+      let same : heads (line ∷ ls) ≡ heads ls = rw a in
+      let more : items (line ∷ ls) ≡ itemsOf (heads ls) (frameOf line) ++ items ls = rw a in
+      record {
+        answer = subst (λ k. Answer k (history k (items ls)) (frameOf line) (reply .bytes)) b (step .answer);
+        stands = open-to (ap isCount same ∙ a) (step .heads ∙ b ∙ sym same)
+            (subst₂ (λ k i. standing.Open (history k i) (reply .state)) (sym same) (sym more)
+            (subst (λ k. standing.Open (history k (itemsOf k (frameOf line) ++ items ls)) (reply .state)) b (step .after)));
+      }
+
+  next-shut : length state ≡ stateLength → isCount (heads ls) ≡ false → isOpen state ≡ false → items ls ≡ [] → Replies state (isOpen state) (frameOf line) reply → Next ls line reply
+  unfolding heads items history
+  next-shut long a b c r =
+      let step = shut-step state (heads ls) a (frameOf line) reply (subst (λ t. Replies state t (frameOf line) reply) b r) in
+      record {
+        answer = subst (λ i. Answer (heads ls) (history (heads ls) i) (frameOf line) (reply .bytes)) (sym c) (step .answer);
+        stands = go (isCount (opens (frameOf line))) refl step;
+      }
+    where
+      now : heads (line ∷ ls) ≡ opens (frameOf line)
+      now = rw a
+
+      none : items (line ∷ ls) ≡ []
+      none = rw a
+
+      go : (t : Bool) → isCount (opens (frameOf line)) ≡ t → Shut state (heads ls) a (frameOf line) reply → Stands (line ∷ ls) (reply .state)
+      go true e s =
+          open-to (ap isCount now ∙ e) (s .heads e ∙ sym now)
+          (subst (λ i. standing.Open (history (heads (line ∷ ls)) i) (reply .state)) (sym none) (s .opened e))
+      go false e s = shut (ap length (s .same e) ∙ long) (ap isCount now ∙ e) (ap isOpen (s .same e) ∙ b) none
+
+  pub next : Stands ls state → Replies state (isOpen state) (frameOf line) reply → Next ls line reply
+  next (shut long a b c) r = next-shut long a b c r
+  next (open-to a b w) r = next-open a b w r
+
+-- before any line
+pub stands-start : Stands [] emptyState
+unfolding heads items
+stands-start = shut refl refl refl refl
+
+pub stands-long : {ls : List (List ℕ)} {state : List ℕ} → Stands ls state → length state ≡ stateLength
+stands-long (shut long a b c) = long
+stands-long (open-to a b w) = w .long
+
+pub stands-images : {ls : List (List ℕ)} {state : List ℕ} → Stands ls state → ImagesOf ls state
+stands-images (shut long a b c) = record { images = λ e p i j. absurd (true≢false (sym e ∙ a)) }
+stands-images {ls} {state} (open-to a b w) =
+    record { images = λ e p i j. w .kept .is p i (subst (λ k. p ≤ k) (sym b) j) ∙ ap (λ k. imageAfter k (historyOf ls) p) b }
