@@ -1,5 +1,5 @@
 /* The examples of document 01, on the functions of wilbryn.h. Every run is lent in a heap block of
-   exactly its length. WITH_MEETING adds the meetings. The first difference ends the run. */
+   exactly its length. The first difference ends the run. */
 #include "wilbryn.h"
 
 #include <stdio.h>
@@ -120,7 +120,6 @@ static void heard(uint32_t wanted, struct run image, struct run records) {
     give_back(before[1]);
 }
 
-#ifdef WITH_MEETING
 enum { ANY_LABEL = 255 };
 
 static void meeting(uint32_t wanted, struct run first, struct run second, struct run verdicts) {
@@ -141,7 +140,6 @@ static void meeting_refused(uint32_t number, struct run first, struct run second
     meeting(256 + number, first, second, verdicts);
     give_back(verdicts);
 }
-#endif
 
 /* The refusals 1 to 6. The first of each number is document 01's own example; 0 is accepted. */
 static const struct {
@@ -252,7 +250,6 @@ static void try_heard(void) {
     give_back(image);
 }
 
-#ifdef WITH_MEETING
 struct parlour {
     uint8_t n;
     struct run images[9]; /* from 1 */
@@ -375,19 +372,16 @@ static void try_pairs(void) {
     struct run all[] = {fresh1, fresh2, again1, of3, odd1, odd2};
     for (int i = 0; i < 6; i++) give_back(all[i]);
 }
-#endif
 
 int main(void) {
     try_images();
     try_fresh();
     try_milking();
     try_heard();
-#ifdef WITH_MEETING
     try_lists();
     try_listing();
     try_images_in_meetings();
     try_pairs();
-#endif
     printf("check.c: as document 01 says:");
     for (int call = 0; call < CALLS; call++) printf(" %s %u", names[call], counts[call]);
     printf("\n");
