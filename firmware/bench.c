@@ -145,15 +145,17 @@ static size_t stack_of(call *call) {
     return most;
 }
 
-/* Both must do the same, or the times mean nothing. */
+/* Both must do the same, or the times mean nothing. Neither finds the verdicts of the other. */
 static void expect_same(call *plain, call *wilbryn) {
     for (int i = 0; i < PAIRS; i++) {
         uint8_t plain_verdicts[8];
         lay_out(&pairs[i]);
+        memset(verdicts, 0xee, n);
         uint32_t answer = plain();
         struct pair after = work;
         memcpy(plain_verdicts, verdicts, n);
         lay_out(&pairs[i]);
+        memset(verdicts, 0xee, n);
         bool same = wilbryn() == answer && memcmp(&after, &work, sizeof work) == 0;
         if (!same || memcmp(plain_verdicts, verdicts, n) != 0) {
             printf("N = %zu: plain and wilbryn differ\n", n);
