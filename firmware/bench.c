@@ -1,5 +1,5 @@
 /* Times wilbryn_check and wilbryn_meeting against the plain versions on the same images, and
-   measures the stack that they touch. Without WITH_MEETING the check alone. */
+   measures the stack that they touch. */
 #define _XOPEN_SOURCE 700
 #include "wilbryn.h"
 
@@ -65,11 +65,9 @@ static uint32_t check_wilbryn(void) { return wilbryn_check(work.first, len); }
 static uint32_t meeting_plain(void) {
     return plain_meeting(work.first, len, work.second, len, verdicts, n);
 }
-#ifdef WITH_MEETING
 static uint32_t meeting_wilbryn(void) {
     return wilbryn_meeting(work.first, len, work.second, len, verdicts, n);
 }
-#endif
 
 static void lay_out(const struct pair *pair) {
     memcpy(work.first, pair->first, len);
@@ -147,15 +145,17 @@ static size_t stack_of(call *call) {
     return most;
 }
 
-/* Both must do the same, or the times mean nothing. */
+/* Both must do the same, or the times mean nothing. Neither finds the verdicts of the other. */
 static void expect_same(call *plain, call *wilbryn) {
     for (int i = 0; i < PAIRS; i++) {
         uint8_t plain_verdicts[8];
         lay_out(&pairs[i]);
+        memset(verdicts, 0xee, n);
         uint32_t answer = plain();
         struct pair after = work;
         memcpy(plain_verdicts, verdicts, n);
         lay_out(&pairs[i]);
+        memset(verdicts, 0xee, n);
         bool same = wilbryn() == answer && memcmp(&after, &work, sizeof work) == 0;
         if (!same || memcmp(plain_verdicts, verdicts, n) != 0) {
             printf("N = %zu: plain and wilbryn differ\n", n);
@@ -223,11 +223,6 @@ int main(void) {
         for (int i = 0; i < PAIRS; i++) make_pair(&pairs[i]);
     }
     compare("check", check_plain, check_wilbryn);
-#ifdef WITH_MEETING
     compare("meeting", meeting_plain, meeting_wilbryn);
-#else
-    (void)meeting_plain;
-    printf("the library exports no wilbryn_meeting: meetings are not timed\n");
-#endif
     return 0;
 }

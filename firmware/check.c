@@ -1,5 +1,5 @@
 /* The examples of document 01, on the functions of wilbryn.h. Every run is lent in a heap block of
-   exactly its length. WITH_MEETING adds the meetings. The first difference ends the run. */
+   exactly its length. The first difference ends the run. */
 #include "wilbryn.h"
 
 #include <stdio.h>
@@ -23,6 +23,7 @@ static void show(const char *what, struct run run) {
     printf("\n");
 }
 
+/* Full of 0xee, so that a byte that is not written shows. */
 static struct run lend(size_t len) {
     struct run run = {malloc(len), len};
     if (run.bytes == NULL) {
@@ -86,7 +87,8 @@ static void check(uint32_t wanted, struct run image) {
 }
 
 static void fresh(uint32_t wanted, struct run image, uint8_t n, uint8_t stall) {
-    struct run before = copy(image), after = copy(image);
+    struct run before = lend(image.len), after = lend(image.len);
+    memset(image.bytes, 0xee, image.len);
     if (wanted == 0) {
         memset(after.bytes, 0, after.len);
         after.bytes[0] = n;
@@ -110,38 +112,57 @@ static void milking(uint32_t wanted, struct run image, uint16_t yield) {
     give_back(after);
 }
 
-static void heard(uint32_t wanted, struct run image, struct run records) {
+static int by_stall(const void *a, const void *b) { return memcmp(a, b, 3); }
+
+/* list: the records wanted, by rising stall. Their order is open, so those written are put so. */
+static void heard(uint32_t wanted, struct run image, size_t buffer, const char *list) {
+    struct run records = lend(buffer), after = lend(buffer), listed = from_hex(list);
     struct run before[] = {copy(image), copy(records)};
+    if (wanted < 256) {
+        memset(after.bytes, 0, after.len);
+        memcpy(after.bytes, listed.bytes, listed.len);
+    }
     uint32_t got = wilbryn_heard(image.bytes, image.len, records.bytes, records.len);
     expect(HEARD, wanted, got, before, 2);
     expect_bytes("image", before[0], image);
-    if (wanted > 8) expect_bytes("records", before[1], records);
-    give_back(before[0]);
-    give_back(before[1]);
+    if (wanted < 256) qsort(records.bytes, wanted, 3, by_stall);
+    expect_bytes("records", after, records);
+    struct run all[] = {records, after, listed, before[0], before[1]};
+    for (int i = 0; i < 5; i++) give_back(all[i]);
 }
 
-#ifdef WITH_MEETING
-enum { ANY_LABEL = 255 };
+static struct run part(struct run run, size_t from, size_t to) {
+    return (struct run){run.bytes + from, to - from};
+}
 
-static void meeting(uint32_t wanted, struct run first, struct run second, struct run verdicts) {
+/* wanted_verdicts: what the buffer holds afterwards. A refused meeting changes no image; an accepted
+   one leaves N, stall and current yield, and the rest the same in both. */
+static void meeting(uint32_t wanted, struct run first, struct run second,
+                    struct run wanted_verdicts) {
+    struct run verdicts = lend(wanted_verdicts.len);
     struct run runs[] = {first, second, verdicts}, before[3];
     for (int i = 0; i < 3; i++) before[i] = copy(runs[i]);
     uint32_t got = wilbryn_meeting(first.bytes, first.len, second.bytes, second.len,
                                    verdicts.bytes, verdicts.len);
-    if (wanted == ANY_LABEL && got <= 4u * first.bytes[0]) wanted = got;
     expect(MEETING, wanted, got, before, 3);
-    for (int i = 0; i < 3; i++) {
-        if (wanted >= 256) expect_bytes("a lent run", before[i], runs[i]);
-        give_back(before[i]);
+    expect_bytes("the verdict buffer", wanted_verdicts, verdicts);
+    for (int i = 0; i < 2; i++) {
+        size_t stays = wanted < 256 ? 4 : runs[i].len;
+        expect_bytes("what stays of an image", part(before[i], 0, stays), part(runs[i], 0, stays));
     }
+    if (wanted < 256) {
+        expect_bytes("the rest of the images", part(first, 4, first.len),
+                     part(second, 4, second.len));
+    }
+    for (int i = 0; i < 3; i++) give_back(before[i]);
+    give_back(verdicts);
 }
 
 static void meeting_refused(uint32_t number, struct run first, struct run second, size_t buffer) {
-    struct run verdicts = lend(buffer);
-    meeting(256 + number, first, second, verdicts);
-    give_back(verdicts);
+    struct run unchanged = lend(buffer);
+    meeting(256 + number, first, second, unchanged);
+    give_back(unchanged);
 }
-#endif
 
 /* The refusals 1 to 6. The first of each number is document 01's own example; 0 is accepted. */
 static const struct {
@@ -181,11 +202,12 @@ static void try_images(void) {
     for (int i = 0; i < IMAGES; i++) {
         doing = images[i].what;
         uint32_t number = images[i].number;
-        struct run image = from_hex(images[i].image), records = lend(2);
+        struct run image = from_hex(images[i].image);
         check(number, image);
-        heard(256 + (number == 0 ? 8 : number), image, records);
+        heard(256 + (number == 0 ? 8 : number), image, 2, "");
+        if (number != 0) heard(256 + number, image, 6, "");
+        milking(number == 0 ? 4 : number, image, 1000);
         milking(number, image, 5);
-        give_back(records);
         give_back(image);
     }
 }
@@ -193,19 +215,18 @@ static void try_images(void) {
 static void try_fresh(void) {
     for (uint8_t n = 2; n <= 8; n++) {
         doing = "a fresh image";
-        struct run image = lend(WILBRYN_IMAGE_LENGTH(n)), records = lend(3 * n);
+        struct run image = lend(WILBRYN_IMAGE_LENGTH(n));
         fresh(3, image, n, 0);
         fresh(3, image, n, n + 1);
         for (uint8_t stall = 1; stall <= n; stall++) {
             fresh(0, image, n, stall);
             check(0, image);
-            heard(0, image, records);
+            heard(0, image, 3 * n, "");
         }
-        give_back(records);
         give_back(image);
     }
     doing = "the order 1, 2, 3 of a fresh image";
-    struct run image = from_hex("eeee");
+    struct run image = lend(2);
     fresh(1, image, 1, 0);
     fresh(1, image, 9, 0);
     fresh(2, image, 2, 0);
@@ -225,34 +246,25 @@ static void try_milking(void) {
     give_back(image);
 }
 
-static const char *listing_image =
-    "0303 0000 020001000000 020003000200 020003000200 001200000000 070606";
+/* What the listing leaves, by stall. Document 01 shows the last; by its rules head 2 differs from
+   that in the stall alone, and head 1 has what the first meeting left. */
+static const char *const listing[] = {
+    "0301 0012 020001000000 020001000000 000000000000 001200000000 030300",
+    "0302 0000 020001000000 020003000200 020003000200 001200000000 070606",
+    "0303 0000 020001000000 020003000200 020003000200 001200000000 070606",
+};
 
 static void try_heard(void) {
-    doing = "the heard list of the listing";
-    struct run image = from_hex(listing_image), records = lend(9);
-    struct run yields = from_hex("0012 0000 0000");
-    heard(3, image, records);
-    int seen[4] = {0};
-    for (int i = 0; i < 3; i++) {
-        struct run record = {records.bytes + 3 * i + 1, 2};
-        uint8_t stall = record.bytes[-1];
-        if (stall < 1 || stall > 3 || seen[stall]++ > 0) {
-            printf("%s: record %d is not of a stall of its own\n", doing, i);
-            show("records", records);
-            exit(1);
-        }
-        expect_bytes("yield", (struct run){yields.bytes + 2 * (stall - 1), 2}, record);
-    }
-    give_back(yields);
-    give_back(records);
-    records = lend(8);
-    heard(256 + 8, image, records);
-    give_back(records);
-    give_back(image);
+    doing = "the heard lists of the listing";
+    struct run first = from_hex(listing[0]), last = from_hex(listing[2]);
+    heard(2, first, 9, "010012 020000");
+    heard(3, last, 9, "010012 020000 030000");
+    heard(256 + 8, last, 8, "");
+    heard(256 + 8, last, 10, "");
+    give_back(last);
+    give_back(first);
 }
 
-#ifdef WITH_MEETING
 struct parlour {
     uint8_t n;
     struct run images[9]; /* from 1 */
@@ -271,17 +283,17 @@ static void shut(struct parlour parlour) {
     for (uint8_t stall = 1; stall <= parlour.n; stall++) give_back(parlour.images[stall]);
 }
 
-/* The lists to try: pairs of stalls, the label of each meeting (? if the document names none), and
-   the verdicts of the last. */
+/* The lists to try: pairs of stalls, and the label and the verdicts of each meeting. Those that
+   document 01 does not write down follow from its definitions. */
 static const struct {
     uint8_t n;
     const char *meetings, *labels, *verdicts;
 } lists[] = {
-    {2, "12 12 12 12", "0101", "00"},
-    {3, "12 13 12 12 12", "00121", "000"},
-    {5, "12 13 14 45 25 24 35", "???????", "22022"},
-    {5, "12 13 14 45 25 24 12", "???????", "02022"},
-    {4, "12 13 24 34", "????", "1212"},
+    {2, "12 12 12 12", "0101", "00 00 00 00"},
+    {3, "12 13 12 12 12", "00121", "000 110 101 000 000"},
+    {5, "12 13 14 45 25 24 35", "0000000", "00000 11000 11100 11110 20222 01001 22022"},
+    {5, "12 13 14 45 25 24 12", "0000001", "00000 11000 11100 11110 20222 01001 02022"},
+    {4, "12 13 24 34", "0000", "0000 1100 1100 1212"},
     {2, "12", "0", "00"},
     {3, "31", "0", "000"},
     {4, "24", "0", "0000"},
@@ -289,7 +301,7 @@ static const struct {
     {6, "36", "0", "000000"},
     {7, "72", "0", "0000000"},
     {8, "87", "0", "00000000"},
-    {3, "12 23", "00", "110"},
+    {3, "12 23", "00", "000 110"},
 };
 
 enum { LISTS = sizeof lists / sizeof lists[0] };
@@ -298,19 +310,16 @@ static void try_lists(void) {
     for (int i = 0; i < LISTS; i++) {
         doing = lists[i].meetings;
         struct parlour parlour = open(lists[i].n);
-        struct run verdicts = lend(parlour.n), wanted = lend(parlour.n);
-        size_t count = strlen(lists[i].labels);
-        for (size_t m = 0; m < count; m++) {
-            struct run first = parlour.images[lists[i].meetings[3 * m] - '0'];
-            struct run second = parlour.images[lists[i].meetings[3 * m + 1] - '0'];
-            char digit = lists[i].labels[m];
-            meeting(digit == '?' ? ANY_LABEL : (uint32_t)(digit - '0'), first, second, verdicts);
+        struct run verdicts = lend(parlour.n);
+        const char *pair = lists[i].meetings, *digits = lists[i].verdicts;
+        for (uint8_t r = 1; r <= parlour.n; r++) milking(0, parlour.images[r], r);
+        for (const char *label = lists[i].labels; *label != '\0'; label++) {
+            for (size_t r = 0; r < parlour.n; r++) verdicts.bytes[r] = (uint8_t)(digits[r] - '0');
+            meeting((uint32_t)(*label - '0'), parlour.images[pair[0] - '0'],
+                    parlour.images[pair[1] - '0'], verdicts);
+            pair += 3;
+            digits += parlour.n + 1;
         }
-        for (size_t r = 0; r < parlour.n; r++) {
-            wanted.bytes[r] = (uint8_t)(lists[i].verdicts[r] - '0');
-        }
-        expect_bytes("the last verdicts", wanted, verdicts);
-        give_back(wanted);
         give_back(verdicts);
         shut(parlour);
     }
@@ -319,14 +328,14 @@ static void try_lists(void) {
 static void try_listing(void) {
     doing = "the listing";
     struct parlour parlour = open(3);
-    struct run *images = parlour.images, verdicts = lend(3);
+    struct run *images = parlour.images;
+    struct run none_newer = from_hex("000000"), first_newer = from_hex("010100");
     milking(0, images[1], 18);
-    meeting(0, images[1], images[2], verdicts);
-    expect_hex("verdicts", "000000", verdicts);
-    meeting(0, images[2], images[3], verdicts);
-    expect_hex("verdicts", "010100", verdicts);
-    expect_hex("image 3", listing_image, images[3]);
-    give_back(verdicts);
+    meeting(0, images[1], images[2], none_newer);
+    meeting(0, images[2], images[3], first_newer);
+    for (int i = 0; i < 3; i++) expect_hex("an image", listing[i], images[i + 1]);
+    give_back(first_newer);
+    give_back(none_newer);
     shut(parlour);
 }
 
@@ -375,19 +384,16 @@ static void try_pairs(void) {
     struct run all[] = {fresh1, fresh2, again1, of3, odd1, odd2};
     for (int i = 0; i < 6; i++) give_back(all[i]);
 }
-#endif
 
 int main(void) {
     try_images();
     try_fresh();
     try_milking();
     try_heard();
-#ifdef WITH_MEETING
     try_lists();
     try_listing();
     try_images_in_meetings();
     try_pairs();
-#endif
     printf("check.c: as document 01 says:");
     for (int call = 0; call < CALLS; call++) printf(" %s %u", names[call], counts[call]);
     printf("\n");

@@ -1,7 +1,7 @@
 # Sourced by test and bench. Enters the repository root and sets: out, where build products go; lib,
-# the library to link (the proved one, or what WILBRYN_LIB names); meeting, the word that adds the
-# meetings if the library exports them; program, the line program (the proved one, or what
-# WILBRYN_PROGRAM names); compile, the C compiler and its words; rust, the Rust compiler.
+# the library to link (the proved one, or what WILBRYN_LIB names); program, the line program (the
+# proved one, or what WILBRYN_PROGRAM names); compile, the C compiler and its words; rust, the Rust
+# compiler. It stops where the library lacks a function that wilbryn.h declares.
 lib=${WILBRYN_LIB:+$(realpath "$WILBRYN_LIB")}
 program=${WILBRYN_PROGRAM:+$(realpath "$WILBRYN_PROGRAM")}
 cd "$(dirname "${BASH_SOURCE[0]}")/.."
@@ -15,11 +15,14 @@ if [ -z "$program" ]; then
     rt check wilbryn
     program=$PWD/target/bin/wilbryn
 fi
-symbols=$(nm --quiet --extern-only --defined-only "$lib")
-meeting=()
-if grep -q ' T wilbryn_meeting$' <<<"$symbols"; then
-    meeting=(-DWITH_MEETING)
-fi
+exported=$(nm --quiet --extern-only --defined-only "$lib")
+declared=$(grep -o 'wilbryn_[a-z0-9_]*(' firmware/wilbryn.h)
+for name in ${declared//(/}; do
+    if ! grep -q " T $name\$" <<<"$exported"; then
+        echo "$lib does not export $name, which wilbryn.h declares" >&2
+        exit 1
+    fi
+done
 compile=(cc -std=c11 -O2 -g -Wall -Wextra -Werror)
 rust() { # source, product, words
     rustc --edition 2021 -O "firmware/$1" -o "$out/$2" "${@:3}"

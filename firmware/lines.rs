@@ -12,7 +12,7 @@ mod sessions;
 
 use answers::{answers, lines, Answer, Lines};
 use images::Random;
-use program::Run;
+use program::{run_with_stops, Run};
 use std::process::exit;
 use std::thread;
 use std::time::Duration;
@@ -124,6 +124,18 @@ impl Test {
         self.count(&expected);
     }
 
+    /// Gives the program an input while its writes are cut short.
+    fn stop_and_go(&mut self, name: &str, input: &[u8]) {
+        let expected = answers(input);
+        let (output, ended) = run_with_stops(&self.path, input);
+        self.compare(name, input, &expected, &output);
+        if !ended {
+            self.fail(name, "the program did not end well");
+        }
+        self.sessions += 1;
+        self.count(&expected);
+    }
+
     /// The most memory that the program has for an input that it is given so often.
     fn memory(&mut self, name: &str, input: &[u8], times: usize) -> usize {
         let rounds = rounds(input, times);
@@ -196,7 +208,9 @@ fn long_sessions(test: &mut Test, random: &mut Random) {
         test.run("a long session", &sessions::session(random, n, 100_000, 0));
         test.run("a long session with odd lines", &sessions::session(random, n, 100_000, 30));
     }
-    test.run("the longest answers", &[b"0108\n", &b"0408\n".repeat(20_000)[..]].concat());
+    let longest = [b"0108\n", &b"0408\n".repeat(20_000)[..]].concat();
+    test.run("the longest answers", &longest);
+    test.stop_and_go("the longest answers, their writes cut short", &longest);
     test.run("long lines", &sessions::long_lines(random));
     test.run("a line of 10 MB", &sessions::huge_line(random, 10_000_000));
     test.run("a line of 10 MB alone", &vec![b'0'; 10_000_000]);

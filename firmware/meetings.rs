@@ -15,6 +15,7 @@ use images::Random;
 use model::Table;
 use pairs::{next_pair, Way, WAYS};
 use parlour::{buffer, Parlour, Seen};
+use std::process::exit;
 
 /// Runs lists from fresh; `each` sees the parlour after each step, `steps` times in all.
 fn run_lists(
@@ -204,6 +205,10 @@ fn main() {
     }
     seen.counts.print();
     println!("  verdicts 0, 1, 2: {:?}; largest label {}", seen.verdicts, seen.most_label);
+    if seen.verdicts.contains(&0) {
+        println!("a verdict never came up");
+        exit(1);
+    }
     seen.counts.require("meetings in all", 0..=9);
     for kind in ["two moments of a list", "rows from no list", "from no list"] {
         seen.counts.require(kind, [0, 9]);

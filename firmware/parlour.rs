@@ -35,17 +35,15 @@ impl Seen {
         verdicts: &[u8],
     ) -> Outcome {
         let lent = [first, second, verdicts];
-        let mut library = Outcome { answer: 0, runs: lent.map(Run::from).into() };
-        let mut model = Outcome { answer: 0, runs: lent.map(Run::from).into() };
-        if let [a, b, v] = &mut library.runs[..] {
-            let (a_len, b_len, v_len) = (a.len(), b.len(), v.len());
-            library.answer = unsafe {
-                wilbryn_meeting(a.as_mut_ptr(), a_len, b.as_mut_ptr(), b_len, v.as_mut_ptr(), v_len)
-            };
-        }
-        if let [a, b, v] = &mut model.runs[..] {
-            model.answer = model::meeting(a, b, v);
-        }
+        let [mut a, mut b, mut v] = lent.map(Run::from);
+        let (a_len, b_len, v_len) = (a.len(), b.len(), v.len());
+        let answer = unsafe {
+            wilbryn_meeting(a.as_mut_ptr(), a_len, b.as_mut_ptr(), b_len, v.as_mut_ptr(), v_len)
+        };
+        let library = Outcome { answer, runs: vec![a, b, v] };
+        let [mut a, mut b, mut v] = lent.map(Run::from);
+        let answer = model::meeting(&mut a, &mut b, &mut v);
+        let model = Outcome { answer, runs: vec![a, b, v] };
         agree("meeting", &lent, &library, &model);
         if library.answer < 256 && library.runs[..2].iter().any(|image| model::check(image) != 0) {
             println!("an accepted meeting left a bad image: {:?}", lent.map(hex));

@@ -30,13 +30,48 @@ fn read_blocks(mut from: impl Read + Send + 'static) -> Receiver<Vec<u8>> {
     blocks
 }
 
+fn spawn(path: &str) -> Child {
+    Command::new(path)
+        .stdin(Stdio::piped())
+        .stdout(Stdio::piped())
+        .spawn()
+        .unwrap_or_else(|error| panic!("{path}: {error}"))
+}
+
+extern "C" {
+    fn kill(process: i32, signal: i32) -> i32;
+}
+
+/// The signals that stop a process and let it go on.
+const STOP_AND_GO: [i32; 2] = [19, 18];
+
+/// What a program writes for an input, and whether it ends well, when it is stopped for a moment
+/// before each block of its output is read: a write that waits for room is then cut short.
+pub fn run_with_stops(path: &str, input: &[u8]) -> (Vec<u8>, bool) {
+    let mut child = spawn(path);
+    let mut to = child.stdin.take().unwrap();
+    let mut from = child.stdout.take().unwrap();
+    let mut output = Vec::new();
+    thread::scope(|scope| {
+        scope.spawn(move || to.write_all(input));
+        // Little is read at once, so that there is room for a part of a write only.
+        let mut block = vec![0; 10_000];
+        loop {
+            // By the end of this pause the program has filled the pipe and waits.
+            thread::sleep(Duration::from_millis(1));
+            for signal in STOP_AND_GO {
+                unsafe { kill(child.id() as i32, signal) };
+            }
+            let Ok(count @ 1..) = from.read(&mut block) else { break };
+            output.extend(&block[..count]);
+        }
+    });
+    (output, child.wait().is_ok_and(|status| status.success()))
+}
+
 impl Run {
     pub fn start(path: &str) -> Run {
-        let mut child = Command::new(path)
-            .stdin(Stdio::piped())
-            .stdout(Stdio::piped())
-            .spawn()
-            .unwrap_or_else(|error| panic!("{path}: {error}"));
+        let mut child = spawn(path);
         let input = child.stdin.take();
         let blocks = read_blocks(child.stdout.take().unwrap());
         Run { child, input, blocks, output: Vec::new(), answers: 0 }
