@@ -10,7 +10,7 @@ use borrow.Author.Tests.{le-leb, lt-leb, eq-eqb, ne-eqb}
 use lib.Dec.{leb, eqb}
 use lib.ListN.{length, take, drop, replicate, length-append}
 use lib.Seq.{take-at}
-use Rattle.image.specs.Layout.{partnerAt, labelAt, nameFrom, nameAt, heardAt}
+use Rattle.image.specs.Layout.{partnerAt, labelAt, nameFrom, nameAt, heardAt, yieldsPlace}
 use Rattle.image.specs.Frame.{Framed}
 use Rattle.image.specs.Row.{isNever, ownRow}
 use Rattle.image.specs.declared.Name.the-variants.{Never, With}
@@ -150,7 +150,7 @@ module _ (s : List ℕ) (n own m : ℕ) (row : List Entry) (d mid out : List ℕ
     (long : length d ≡ 3 * n) (midlong : length mid ≡ length d) (ends : end ≡ 3 * length (chosen m (heardIn row)))
     (mids : mid ≡ recordsTo s (length s - (m + m + m)) row m ++ drop end d)
     (outs : out ≡ take end mid ++ replicate (length mid - end) 0) where
-  yields-at : length s - (m + m + m) ≡ 4 + n * (n + n)
+  yields-at : length s - (m + m + m) ≡ yieldsPlace n
   yields-at = omega (arith, f .long)
 
   -- the records written are those of the definition

@@ -1,10 +1,10 @@
 -- The calls on one image: what comes back, and what every lent byte holds afterwards, refused or not.
 use Prim.Native.Nat.{ℕ, _/_, _%_}
-use mathlib.Core.Bool.{_&&_, not, cond}
+use mathlib.Core.Bool.{not, cond}
 use mathlib.Core.List.{List}
-use lib.Dec.{leb, ltb, eqb}
+use lib.Dec.{ltb, eqb}
 use lib.ListN.{length, set}
-use Rattle.image.specs.Layout.{largest, yieldLimit, lengthOf}
+use Rattle.image.specs.Layout.{isCount, yieldLimit, lengthOf}
 use Rattle.image.specs.Fresh.{freshImage}
 use Rattle.image.specs.Check.{badStall, checked}
 use Rattle.image.specs.declared.Checked.{Checked}
@@ -25,7 +25,7 @@ accepted s = record { answer = 0; image = s }
 -- "A fresh table tries 1 for N, 2 for the buffer, 3."
 unfoldable pub freshCall : List ℕ → ℕ → ℕ → Outcome
 freshCall s n stall =
-    cond (not (leb 2 n && leb n largest)) (refused 1 s)
+    cond (not (isCount n)) (refused 1 s)
     (cond (not (eqb (length s) (lengthOf n))) (refused 2 s)
     (cond (badStall n stall) (refused 3 s)
     (accepted (freshImage n stall))))

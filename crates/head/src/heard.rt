@@ -10,6 +10,7 @@ ghost use Rattle.image.specs.Row.{isNever};
 ghost use Rattle.head.specs.Heard.{HeardList};
 ghost use Rattle.head.specs.HeardOrder.{chosen, heardIn, recordsTo};
 use image::Entry;
+use image::STALLS;
 use image::bytes::wide;
 use image::rows::is_never;
 use image::rows::own_row;
@@ -52,8 +53,8 @@ fn clear_from(records: &mut [u8], at: usize)
 }
 
 // The records of the heard stalls of a row, by stall number, and where they end.
-fn put_records(image: &[u8], n: usize, yields: usize, row: [Entry; 8], records: &mut [u8]) -> usize
-    requires { ⌜ (n ≤ largest) × (yields + n * 2 ≤ length (now image)) × (length (now records) ≡ 3 * n) × (length row ≡ 8) ⌝ }
+fn put_records(image: &[u8], n: usize, yields: usize, row: [Entry; STALLS], records: &mut [u8]) -> usize
+    requires { ⌜ (n ≤ largest) × (yields + n * 2 ≤ length (now image)) × (length (now records) ≡ 3 * n) × (length row ≡ largest) ⌝ }
     ensures { λ r.
         ⌜ (r ≡ 3 * length (chosen n (heardIn row)))
         × (now (records .exit) ≡ recordsTo (now (image .entry)) yields row n ++ drop r (now (records .entry))) ⌝ }

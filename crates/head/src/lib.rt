@@ -1,15 +1,15 @@
 // The calls of a head, as C firmware links them.
 ghost use mathlib.Core.Path.{_≡_};
 ghost use Prim.Native.Nat.{_≤_};
-ghost use mathlib.Core.Bool.{_&&_, not};
-ghost use lib.Dec.{leb};
 ghost use lib.ListN.{length, take};
+ghost use Rattle.image.specs.Layout.{longest};
 ghost use Rattle.head.specs.Calls.{Outcome, freshCall, milkingCall};
 ghost use Rattle.head.specs.Heard.{HeardCall};
 ghost use Rattle.image.specs.Check.{checked, numberOf};
 ghost use Rattle.merge.specs.Call.{MeetingOutcome, meetingCall};
 use image::Checked;
 use image::Head;
+use image::LONGEST;
 
 mod heard;
 
@@ -22,8 +22,8 @@ pub extern "C" fn wilbryn_check(image: &[u8]) -> u32
 }
 
 // The image as the first bytes of a table.
-fn write_table(image: &mut [u8], table: [u8; 156])
-    requires { ⌜ (length (now image) ≤ 156) × (length table ≡ 156) ⌝ }
+fn write_table(image: &mut [u8], table: [u8; LONGEST])
+    requires { ⌜ (length (now image) ≤ longest) × (length table ≡ longest) ⌝ }
     ensures { λ r. ⌜ now (image .exit) ≡ take (length (now (image .entry))) table ⌝ }
 {
     let mut i = 0usize;
@@ -38,26 +38,19 @@ fn write_table(image: &mut [u8], table: [u8; 156])
 pub extern "C" fn wilbryn_fresh(image: &mut [u8], n: u8, stall: u8) -> u32
     ensures { λ r. ⌜ _≡_ {A = Outcome} (record { answer = r; image = now (image .exit) }) (freshCall (now (image .entry)) n stall) ⌝ }
 {
-    if bad_range(2, n, 8) {
+    if image::bytes::bad_count(n) {
         return 1;
     }
     if image.len() != image::length_of(image::bytes::wide(n)) {
         return 2;
     }
-    if bad_range(1, stall, n) {
+    if image::bytes::bad_stall(n, stall) {
         return 3;
     }
     let table = Head::fresh(n, stall);
     let bytes = table.image;
     write_table(image, bytes);
     0
-}
-
-// x is not a to b.
-fn bad_range(a: u8, x: u8, b: u8) -> bool
-    ensures { λ r. ⌜ r ≡ not (leb a x && leb x b) ⌝ }
-{
-    !((a <= x) & (x <= b))
 }
 
 // The current yield becomes a new one.

@@ -9,7 +9,7 @@ use lib.Dec.{leb, ltb, eqb}
 use lib.ListN.{length, getD, length-append, replicate, length-replicate}
 use lib.Pow.{pow-mono}
 use Rattle.image.specs.Stalls.{some, each, bits, has}
-use Rattle.image.specs.Layout.{largest, labelLimit, noYield, word, namePlace, yieldPlace, orderPlace, currentAt, partnerAt, labelAt, yieldAt, orderAt, markAt, nameFrom, nameAt, heardAt}
+use Rattle.image.specs.Layout.{largest, labelLimit, noYield, word, namePlace, yieldPlace, orderPlace, currentAt, partnerAt, labelAt, yieldAt, orderAt, markAt, nameFrom, nameAt, heardAt, imageLength, ordersPlace, yieldsPlace}
 use Rattle.image.specs.Frame.{Framed}
 use Rattle.image.specs.Check.{badName, badDiagonal, badUnheard, badRow, badNames, badOrder, badMarks}
 use Rattle.image.specs.Encode.{Table, nameBytes, wordBytes, encode, tableOf}
@@ -59,29 +59,29 @@ module _ (n own : ℕ) (t : Table) where
   abbrev to-order : List ℕ
   to-order = to-yields ++ each n yield-block
 
-  length-to-yields : length to-yields ≡ 4 + n * (n + n)
+  length-to-yields : length to-yields ≡ yieldsPlace n
   length-to-yields =
       length-append to-names (each n row-block) ∙ omega (arith, length-each (n + n) row-block row-wide n)
 
-  length-to-order : length to-order ≡ 4 + n * (n + n) + n * 2
+  length-to-order : length to-order ≡ ordersPlace n
   length-to-order =
       length-append to-yields (each n yield-block)
       ∙ omega (arith, length-to-yields, length-each 2 yield-block (λ r. refl) n)
 
-  pub length-encode : length (encode n own t) ≡ 4 + n * (n + n) + n * 2 + n
+  pub length-encode : length (encode n own t) ≡ imageLength n
   unfolding encode
   length-encode =
       length-append to-order (each n order-block)
       ∙ omega (arith, length-to-order, length-each 1 order-block (λ r. refl) n)
 
   -- where the yields, the order bytes and each of these stand
-  yields-from : 0 + length to-yields ≡ 4 + n * (n + n)
+  yields-from : 0 + length to-yields ≡ yieldsPlace n
   yields-from = omega (arith, length-to-yields)
 
-  order-from : 0 + length to-order ≡ 4 + n * (n + n) + n * 2
+  order-from : 0 + length to-order ≡ ordersPlace n
   order-from = omega (arith, length-to-order)
 
-  order-at : (r : ℕ) → 4 + n * (n + n) + n * 2 + (r - 1) * 1 ≡ orderPlace n r
+  order-at : (r : ℕ) → ordersPlace n + (r - 1) * 1 ≡ orderPlace n r
   order-at r = omega arith
 
   -- to have the image is to show the table
@@ -99,7 +99,7 @@ module _ (n own : ℕ) (t : Table) where
         order = λ r i j. has-place (order-at r) (bytes r i j);
       }
 
-  pub shows-has : {s : List ℕ} → 4 + n * (n + n) + n * 2 + n ≤ length s → Shows s n own t → Has s 0 (encode n own t)
+  pub shows-has : {s : List ℕ} → imageLength n ≤ length s → Shows s n own t → Has s 0 (encode n own t)
   unfolding encode
   shows-has {s} l h =
       has-both (has-both (has-both (h .start) rows) (has-place (sym yields-from) yields)) (has-place (sym order-from) bytes)
@@ -109,16 +109,16 @@ module _ (n own : ℕ) (t : Table) where
           each-has (n + n) row-block row-wide n (omega arith)
           (λ r i j. each-has 2 (name-block r) (λ c. name-wide (t .names r c)) n (omega (arith, row-within i j)) (λ c. h .names r c i j))
 
-      yields : Has s (4 + n * (n + n)) (each n yield-block)
+      yields : Has s (yieldsPlace n) (each n yield-block)
       yields = each-has 2 yield-block (λ r. refl) n (omega arith) (h .yields)
 
-      bytes : Has s (4 + n * (n + n) + n * 2) (each n order-block)
+      bytes : Has s (ordersPlace n) (each n order-block)
       bytes = each-has 1 order-block (λ r. refl) n (omega arith) (λ r i j. has-place (sym (order-at r)) (h .order r i j))
 
   pub encode-shows : Shows (encode n own t) n own t
   encode-shows = has-shows (has-self (encode n own t))
 
-  pub shows-encode : {s : List ℕ} → length s ≡ 4 + n * (n + n) + n * 2 + n → Shows s n own t → encode n own t ≡ s
+  pub shows-encode : {s : List ℕ} → length s ≡ imageLength n → Shows s n own t → encode n own t ≡ s
   shows-encode l h = has-whole (shows-has (omega arith) h) (length-encode ∙ sym l)
 
 -- What stands where in the image of a table
@@ -296,7 +296,7 @@ fresh-encode n own =
     let m = 2 + n * (n + n) + n * 2 + n in
     let s : List ℕ = n ∷ own ∷ replicate m 0 in
     let zeros = has-zeros m (has-right (n ∷ own ∷ []) (replicate m 0) (has-self s)) in
-    let long : length s ≡ 4 + n * (n + n) + n * 2 + n = omega (arith, length-replicate {A = ℕ} m 0) in
+    let long : length s ≡ imageLength n = omega (arith, length-replicate {A = ℕ} m 0) in
     sym (shows-encode n own nothing long (record {
       start = has-both (has-left (n ∷ own ∷ []) (replicate m 0) (has-self s)) (zeros 2 2 (omega arith) (omega arith));
       names = λ r c i j k l. zeros (namePlace n r c) 2 (omega arith) (omega (arith, row-within i j));

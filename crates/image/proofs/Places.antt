@@ -4,12 +4,12 @@ use mathlib.Core.List.{List}
 use native.Mathlib.Omega.{arith}
 use native.Mathlib.Nat.{mul-le-mul-right}
 use lib.ListN.{length}
-use Rattle.image.specs.Layout.{rowPlace}
+use Rattle.image.specs.Layout.{rowPlace, yieldsPlace}
 use Rattle.image.specs.Frame.{RowAt}
 use Rattle.image.proofs.Search.{times-step}
 
 -- a row ends before the yields
-pub row-within : {n r : ℕ} → 1 ≤ r → r ≤ n → rowPlace n r + (n + n) ≤ 4 + n * (n + n)
+pub row-within : {n r : ℕ} → 1 ≤ r → r ≤ n → rowPlace n r + (n + n) ≤ yieldsPlace n
 row-within {n} {r} a b = omega (arith, times-step r (n + n) a, mul-le-mul-right (n + n) b)
 
 -- what is read at a stall's row, in the own row and among the yields lies within the image

@@ -5,13 +5,13 @@ use mathlib.Core.List.{List}
 use lib.Dec.{leb, ltb, eqb}
 use lib.ListN.{length, getD}
 use Rattle.image.specs.Stalls.{some}
-use Rattle.image.specs.Layout.{largest, yieldLimit, labelLimit, noYield, lengthOf, currentAt, partnerAt, labelAt, yieldAt, markAt, heardAt}
+use Rattle.image.specs.Layout.{largest, isCount, yieldLimit, labelLimit, noYield, lengthOf, currentAt, partnerAt, labelAt, yieldAt, markAt, heardAt}
 use Rattle.image.specs.declared.Checked.{Checked}
 use Rattle.image.specs.declared.Checked.the-variants.{Good, Refused}
 
 -- 1: "image empty, or N not 2 to 8"
 unfoldable pub badCount : List ℕ → Bool
-badCount s = eqb (length s) 0 || not (leb 2 (getD s 0 0) && leb (getD s 0 0) largest)
+badCount s = eqb (length s) 0 || not (isCount (getD s 0 0))
 
 -- 2: "length not the one for N"
 unfoldable pub badLength : List ℕ → Bool

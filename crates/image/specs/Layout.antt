@@ -14,6 +14,10 @@ use Rattle.image.specs.declared.Name.the-variants.{Never, With}
 abbrev pub largest : ℕ
 largest = 8
 
+-- "N from 2 to 8"
+abbrev pub isCount : ℕ → Bool
+isCount n = leb 2 n && leb n largest
+
 -- "decilitres, 0 to 999"
 abbrev pub yieldLimit : ℕ
 yieldLimit = 999
@@ -26,13 +30,30 @@ labelLimit n = 4 * n
 abbrev pub noYield : ℕ
 noYield = 0
 
+-- the bytes of a row of names of so many, and of their image
+abbrev pub longestRow : ℕ
+longestRow = largest * 2
+
+abbrev pub longest : ℕ
+longest = 156
+
 -- "Length 2 × N × N + 3 × N + 4", for 2 to 8 heads; 0 for any other number
 abbrev pub lengthOf : ℕ → ℕ
-lengthOf n = cond (leb 2 n && leb n largest) (2 * n * n + 3 * n + 4) 0
+lengthOf n = cond (isCount n) (2 * n * n + 3 * n + 4) 0
 
 -- two bytes as a number, high first
 abbrev pub word : List ℕ → ℕ → ℕ
 word s at = getD s at 0 * 256 + getD s (at + 1) 0
+
+-- where the yields and the order bytes start, and where the image ends
+abbrev pub yieldsPlace : ℕ → ℕ
+yieldsPlace n = 4 + n * (n + n)
+
+abbrev pub ordersPlace : ℕ → ℕ
+ordersPlace n = yieldsPlace n + n * 2
+
+abbrev pub imageLength : ℕ → ℕ
+imageLength n = ordersPlace n + n
 
 -- where a row, a name in it, a yield and an order byte start
 abbrev pub rowPlace : ℕ → ℕ → ℕ
@@ -42,10 +63,10 @@ abbrev pub namePlace : ℕ → ℕ → ℕ → ℕ
 namePlace n r c = rowPlace n r + (c - 1) * 2
 
 abbrev pub yieldPlace : ℕ → ℕ → ℕ
-yieldPlace n r = 4 + n * (n + n) + (r - 1) * 2
+yieldPlace n r = yieldsPlace n + (r - 1) * 2
 
 abbrev pub orderPlace : ℕ → ℕ → ℕ
-orderPlace n r = 4 + n * (n + n) + n * 2 + (r - 1)
+orderPlace n r = ordersPlace n + (r - 1)
 
 -- what stands there
 abbrev pub currentAt : List ℕ → ℕ

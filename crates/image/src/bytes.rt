@@ -1,13 +1,14 @@
 // Bytes of an image read as numbers, and the yields among them.
 ghost use mathlib.Core.Path.{_≡_};
 ghost use Prim.Native.Nat.{_+_, _-_, _*_, _<_, _≤_};
-ghost use mathlib.Core.Bool.{_&&_, not};
-ghost use lib.Dec.{leb, ltb};
+ghost use mathlib.Core.Bool.{not};
+ghost use lib.Dec.{ltb};
 ghost use lib.ListN.{length};
 ghost use Rattle.image.specs.Stalls.{some};
-ghost use Rattle.image.specs.Layout.{largest, word, yieldLimit, rowPlace};
+ghost use Rattle.image.specs.Layout.{isCount, word, yieldLimit, rowPlace};
 ghost use Rattle.image.specs.Frame.{Framed};
 ghost use Rattle.image.specs.Check.{badStall, badYields};
+use crate::LARGEST;
 
 pub fn wide(b: u8) -> usize
     ensures { λ r. ⌜ (r ≡ b) × (r < 256) ⌝ }
@@ -62,16 +63,23 @@ pub(crate) fn bad_yields(image: &[u8], n: u8, own: u8) -> bool
     (999 < word_at(image, 2)) | over_yields(image, m, image.len() - (m + m + m))
 }
 
-// Check 3.
-pub(crate) fn bad_stall(n: u8, own: u8) -> bool
+// Check 3: a parlour of n heads has no such stall.
+pub fn bad_stall(n: u8, own: u8) -> bool
     ensures { λ b. ⌜ b ≡ badStall n own ⌝ }
 {
     !((1 <= own) & (own <= n))
 }
 
-// Check 1 of an image that is not empty.
-pub(crate) fn bad_count(n: u8) -> bool
-    ensures { λ b. ⌜ b ≡ not (leb 2 n && leb n largest) ⌝ }
+// n is that of a parlour.
+pub fn is_count(n: u8) -> bool
+    ensures { λ r. ⌜ r ≡ isCount n ⌝ }
 {
-    !((2 <= n) & (n <= 8))
+    (2 <= n) & (n <= LARGEST)
+}
+
+// Check 1 of an image that is not empty.
+pub fn bad_count(n: u8) -> bool
+    ensures { λ b. ⌜ b ≡ not (isCount n) ⌝ }
+{
+    !is_count(n)
 }

@@ -11,6 +11,12 @@ pub mod marks;
 mod names;
 pub mod rows;
 
+// The most heads that a parlour has, the bytes of a row of names of so many, and of their image.
+pub const LARGEST: u8 = 8;
+pub const STALLS: usize = LARGEST as usize;
+pub const ROW: usize = 2 * STALLS;
+pub const LONGEST: usize = 156;
+
 // The meeting with a partner that has a label.
 pub struct Meet {
     pub partner: u8,
@@ -42,11 +48,11 @@ pub enum Checked {
 
 // The table of one head by value: its image, then zeros.
 pub struct Head {
-    pub image: [u8; 156],
+    pub image: [u8; LONGEST],
 }
 
 // Image lengths by the number of stalls.
-const LENGTHS: [usize; 9] = [0, 0, 18, 31, 48, 69, 94, 123, 156];
+const LENGTHS: [usize; STALLS + 1] = [0, 0, 18, 31, 48, 69, 94, 123, LONGEST];
 
 impl Head {
     pub const YIELD_LIMIT: u16 = 999;
@@ -60,7 +66,7 @@ impl Head {
     pub fn fresh(n: u8, stall: u8) -> Head
         ensures { λ r. ⌜ r .image ≡ n ∷ stall ∷ replicate 154 0 ⌝ }
     {
-        let mut image = [0u8; 156];
+        let mut image = [0u8; LONGEST];
         image[0] = n;
         image[1] = stall;
         Head { image }
@@ -71,7 +77,7 @@ impl Head {
 pub fn length_of(n: usize) -> usize
     ensures { λ r. ⌜ r ≡ lengthOf n ⌝ }
 {
-    if n <= 8 { LENGTHS[n] } else { 0 }
+    if n <= STALLS { LENGTHS[n] } else { 0 }
 }
 
 // Two bytes as a name.

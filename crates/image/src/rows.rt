@@ -6,6 +6,7 @@ ghost use Rattle.image.specs.Layout.{largest};
 ghost use Rattle.image.specs.Row.{isNever, tabulate, entryAt, ownRow};
 use crate::Entry;
 use crate::Name;
+use crate::STALLS;
 use crate::bytes::row_place;
 use crate::bytes::wide;
 use crate::name_from;
@@ -21,11 +22,11 @@ pub fn is_never(name: Name) -> bool
 }
 
 // The row that starts at a place.
-fn row_at(image: &[u8], n: usize, at: usize) -> [Entry; 8]
+fn row_at(image: &[u8], n: usize, at: usize) -> [Entry; STALLS]
     requires { ⌜ (n ≤ largest) × (at + n * 2 ≤ length (now image)) ⌝ }
     ensures { λ r. ⌜ r ≡ tabulate largest (entryAt (now (image .entry)) n at) ⌝ }
 {
-    let mut row = [Entry { name: Name::Never }; 8];
+    let mut row = [Entry { name: Name::Never }; STALLS];
     let mut place = at;
     let mut c = 0usize;
     while c < n {
@@ -39,16 +40,16 @@ fn row_at(image: &[u8], n: usize, at: usize) -> [Entry; 8]
 }
 
 // The own row of a table.
-pub fn own_row(image: &[u8], n: u8, own: u8) -> [Entry; 8]
+pub fn own_row(image: &[u8], n: u8, own: u8) -> [Entry; STALLS]
     ensures { λ r. ⌜ r ≡ ownRow (now (image .entry)) n own ⌝ }
 {
     let m = wide(n);
     let at = row_place(n, own);
-    if 8 < m {
-        return [Entry { name: Name::Never }; 8];
+    if STALLS < m {
+        return [Entry { name: Name::Never }; STALLS];
     }
     if image.len() < at + m * 2 {
-        return [Entry { name: Name::Never }; 8];
+        return [Entry { name: Name::Never }; STALLS];
     }
     row_at(image, m, at)
 }

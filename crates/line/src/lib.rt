@@ -17,6 +17,7 @@ use crate::parlour::is_count;
 use crate::parlour::open_parlour;
 use crate::parlour::place_of;
 use crate::parlour::write_image;
+use image::STALLS;
 use image::bytes::wide;
 use image::length_of;
 
@@ -96,7 +97,7 @@ fn meet_stalls(state: &mut [u8], n: u8, p: u8, q: u8, out: &mut [u8]) -> usize
     let a = place_of(p);
     let b = place_of(q);
     let mut second = image_at(state, b, count);
-    let mut verdicts = [0u8; 8];
+    let mut verdicts = [0u8; STALLS];
     let label = head::wilbryn_meeting(
         &mut state[a..a + count],
         &mut second[..count],
@@ -153,7 +154,7 @@ fn heard(state: &[u8], stall: u8, out: &mut [u8]) -> usize
     let at = place_of(stall);
     let m = wide(n);
     let end = at + length_of(m);
-    let mut records = [0u8; 24];
+    let mut records = [0u8; 3 * STALLS];
     let count = head::wilbryn_heard(&state[at..end], &mut records[..3 * m]);
     if 256 <= count {
         return reply_byte(out, (count - 256) as u8);

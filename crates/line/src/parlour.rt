@@ -8,6 +8,7 @@ ghost use Rattle.image.specs.Layout.{largest};
 ghost use Rattle.image.specs.Stalls.{each};
 ghost use Rattle.line.specs.Parlour.{slotLength, stateLength, isCount, slotPlace, freshSlot, freshState};
 use image::Head;
+use image::LONGEST;
 use image::bytes::wide;
 
 // n is that of a parlour.
@@ -33,11 +34,11 @@ pub(crate) fn place_of(stall: u8) -> usize
 }
 
 // The bytes at a place, then zeros.
-pub(crate) fn image_at(state: &[u8], at: usize, count: usize) -> [u8; 156]
+pub(crate) fn image_at(state: &[u8], at: usize, count: usize) -> [u8; LONGEST]
     requires { ⌜ (count ≤ slotLength) × (at + count ≤ length (now state)) ⌝ }
     ensures { λ r. ⌜ r ≡ take count (drop at (now (state .entry))) ++ replicate (slotLength - count) 0 ⌝ }
 {
-    let mut image = [0u8; 156];
+    let mut image = [0u8; LONGEST];
     let mut i = 0usize;
     while i < count {
         image[i] = state[at + i];
@@ -47,7 +48,7 @@ pub(crate) fn image_at(state: &[u8], at: usize, count: usize) -> [u8; 156]
 }
 
 // The first bytes of an image to a place.
-pub(crate) fn write_image(state: &mut [u8], at: usize, count: usize, image: [u8; 156])
+pub(crate) fn write_image(state: &mut [u8], at: usize, count: usize, image: [u8; LONGEST])
     requires { ⌜ (count ≤ slotLength) × (at + count ≤ length (now state)) × (length image ≡ slotLength) ⌝ }
     ensures { λ r. ⌜ now (state .exit) ≡ take at (now (state .entry)) ++ take count image ++ drop (at + count) (now (state .entry)) ⌝ }
 {
@@ -59,7 +60,7 @@ pub(crate) fn write_image(state: &mut [u8], at: usize, count: usize, image: [u8;
 }
 
 // The slot of a stall in a parlour of n heads just opened.
-fn fresh_slot(n: u8, stall: u8) -> [u8; 156]
+fn fresh_slot(n: u8, stall: u8) -> [u8; LONGEST]
     requires { ⌜ (2 ≤ n) × (n ≤ largest) ⌝ }
     ensures { λ r. ⌜ r ≡ freshSlot n stall ⌝ }
 {
@@ -67,7 +68,7 @@ fn fresh_slot(n: u8, stall: u8) -> [u8; 156]
         let head = Head::fresh(n, stall);
         return head.image;
     }
-    [0u8; 156]
+    [0u8; LONGEST]
 }
 
 // Every slot of a parlour of n heads just opened.

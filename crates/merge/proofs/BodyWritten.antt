@@ -8,7 +8,7 @@ use lib.Dec.{eqb}
 use lib.ListN.{length, getD, take, drop, replicate, length-append, length-drop}
 use lib.Seq.{length-take-le, take-at, drop-append-add, drop-drop, drop-length}
 use Rattle.image.specs.Stalls.{each}
-use Rattle.image.specs.Layout.{rowPlace, yieldPlace}
+use Rattle.image.specs.Layout.{rowPlace, yieldPlace, imageLength, ordersPlace, yieldsPlace}
 use Rattle.image.specs.Frame.{Sized, Framed}
 use Rattle.image.proofs.Has.{length-each}
 use Rattle.image.proofs.Places.{row-within}
@@ -37,7 +37,7 @@ module _ (s u : List ℕ) (n p q k : ℕ) (v : ℕ → ℕ) where
   unfolding bodyRow
   row-wide a b r i j =
       let source = sourceOf s u v r in
-      let long = length-choice (4 + n * (n + n) + n * 2 + n) u s (eqb (v r) 2) (b .long) (a .long) in
+      let long = length-choice (imageLength n) u s (eqb (v r) 2) (b .long) (a .long) in
       length-choice (n * 2) (each n (latestPair s u n p q k v)) (take (n * 2) (drop (rowPlace n r) source)) (eqb r p || eqb r q)
       (length-each 2 (latestPair s u n p q k v) latest-wide n)
       (length-take-le (n * 2) (drop (rowPlace n r) source) (omega (arith, length-drop (rowPlace n r) source, long, row-within i j)))
@@ -70,27 +70,27 @@ paste-behind front rest l x k w e g =
 -- rows, yields and order bytes by value, written into d one after the other: x has the rows, y the yields too, z all
 module _ (d x y : List ℕ) (n : ℕ) (rows : List (List ℕ)) (yields : List ℕ) (sized : Sized d n)
     (long : (r : ℕ) → 1 ≤ r → r ≤ n → length (getD rows (r - 1) []) ≡ 16) (yields-long : length yields ≡ 16)
-    (x-is : x ≡ take 4 d ++ each n (rowIn rows n) ++ drop (4 + n * (n + n)) d)
-    (y-is : y ≡ take (4 + n * (n + n)) x ++ take (n * 2) yields ++ drop (4 + n * (n + n) + n * 2) x) where
+    (x-is : x ≡ take 4 d ++ each n (rowIn rows n) ++ drop (yieldsPlace n) d)
+    (y-is : y ≡ take (yieldsPlace n) x ++ take (n * 2) yields ++ drop (ordersPlace n) x) where
   abbrev to-yields : List ℕ
   to-yields = take 4 d ++ each n (rowIn rows n)
 
   abbrev to-orders : List ℕ
   to-orders = to-yields ++ take (n * 2) yields
 
-  length-to-yields : length to-yields ≡ 4 + n * (n + n)
+  length-to-yields : length to-yields ≡ yieldsPlace n
   length-to-yields =
       length-append (take 4 d) (each n (rowIn rows n))
       ∙ omega (arith, length-take-le 4 d (omega (arith, sized .long)), length-each-to (n * 2) (rowIn rows n) n (λ r i j. length-take-le (n * 2) (getD rows (r - 1) []) (omega (arith, long r i j, sized .n-to))))
 
-  length-to-orders : length to-orders ≡ 4 + n * (n + n) + n * 2
+  length-to-orders : length to-orders ≡ ordersPlace n
   length-to-orders =
       length-append to-yields (take (n * 2) yields) ∙ omega (arith, length-to-yields, length-take-le (n * 2) yields (omega (arith, sized .n-to)))
 
-  pub body-written : (z : List ℕ) (at : ℕ) (orders : List ℕ) → at ≡ 4 + n * (n + n) + n * 2 → z ≡ take at y ++ take n orders ++ drop (at + n) y
+  pub body-written : (z : List ℕ) (at : ℕ) (orders : List ℕ) → at ≡ ordersPlace n → z ≡ take at y ++ take n orders ++ drop (at + n) y
       → z ≡ to-orders ++ take n orders
   body-written z at orders e z-is =
-      let k = 4 + n * (n + n) in
+      let k = yieldsPlace n in
       let rest = drop (n * 2) (drop k d) in
       let f : y ≡ to-orders ++ rest = y-is ∙ paste-behind to-yields (drop k d) x (take (n * 2) yields) k (n * 2) length-to-yields x-is in
       let g : drop n rest ≡ [] = ap (drop n) (drop-drop (n * 2) k d) ∙ drop-drop n (k + n * 2) d ∙ ap (λ j. drop j d) (sym (sized .long)) ∙ drop-length d in

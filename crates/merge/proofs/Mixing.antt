@@ -7,7 +7,7 @@ use native.Mathlib.Omega.{arith}
 use lib.Dec.{eqb}
 use lib.ListN.{length}
 use Rattle.image.specs.Stalls.{each}
-use Rattle.image.specs.Layout.{rowPlace, yieldPlace}
+use Rattle.image.specs.Layout.{rowPlace, yieldPlace, yieldsPlace}
 use Rattle.image.specs.Frame.{Framed}
 use Rattle.image.proofs.Places.{row-within}
 use Rattle.merge.specs.declared.pairs.Side.{Side}
@@ -38,7 +38,7 @@ module _ (s u r : List ℕ) (v : ℕ → ℕ) (n m p q : ℕ) (a b : Side) (is-n
   mixed-latest k e f g h =
       mixed-is (latestPair s u n p q k v) (λ c. rw (is-p, is-q, e, f, g, h, name-from s u n p q ((c - 1) * 2) (eqb (v c) 2)))
 
-  pub mixed-yields : a .at ≡ 4 + n * (n + n) → b .at ≡ 4 + n * (n + n) → pairBytes (a .own) ≡ pairAt s 2 → pairBytes (b .own) ≡ pairAt u 2
+  pub mixed-yields : a .at ≡ yieldsPlace n → b .at ≡ yieldsPlace n → pairBytes (a .own) ≡ pairAt s 2 → pairBytes (b .own) ≡ pairAt u 2
       → r ≡ padded n (each n (bodyYield s u n p q v))
   unfolding mixedPair bodyYield
   mixed-yields e f g h =

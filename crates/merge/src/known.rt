@@ -15,6 +15,7 @@ ghost use Rattle.merge.specs.Rows.{nameIn, lookIn};
 ghost use Rattle.merge.specs.Judged.{verdictIn, Judged};
 use image::Entry;
 use image::Name;
+use image::STALLS;
 use image::bytes::wide;
 use image::marks::pick;
 use image::marks::widen;
@@ -62,8 +63,8 @@ fn partner_of(x: Name) -> u8
 }
 
 // The name in a column of an own row; outside 1 to n there is none.
-fn look(row: [Entry; 8], n: u8, c: u8) -> Name
-    requires { ⌜ (n ≤ largest) × (length row ≡ 8) ⌝ }
+fn look(row: [Entry; STALLS], n: u8, c: u8) -> Name
+    requires { ⌜ (n ≤ largest) × (length row ≡ largest) ⌝ }
     ensures { λ r. ⌜ r ≡ lookIn row n c ⌝ }
 {
     if c < 1 {
@@ -77,8 +78,8 @@ fn look(row: [Entry; 8], n: u8, c: u8) -> Name
 }
 
 // The meeting that an own row names in column c is named in the other: it can stand there only in column c and in its partner's.
-fn is_common(mine: [Entry; 8], theirs: [Entry; 8], n: u8, c: u8) -> bool
-    requires { ⌜ (n ≤ largest) × (1 ≤ c) × (c ≤ n) × (length mine ≡ 8) × (length theirs ≡ 8) ⌝ }
+fn is_common(mine: [Entry; STALLS], theirs: [Entry; STALLS], n: u8, c: u8) -> bool
+    requires { ⌜ (n ≤ largest) × (1 ≤ c) × (c ≤ n) × (length mine ≡ largest) × (length theirs ≡ largest) ⌝ }
     ensures { λ r. ⌜ r ≡ common n (nameIn mine) (nameIn theirs) c ⌝ }
 {
     let x = look(mine, n, c);
@@ -87,8 +88,8 @@ fn is_common(mine: [Entry; 8], theirs: [Entry; 8], n: u8, c: u8) -> bool
 }
 
 // The columns of an own row whose meetings the other own row names too.
-fn common_set(mine: [Entry; 8], theirs: [Entry; 8], n: u8) -> u64
-    requires { ⌜ (n ≤ largest) × (length mine ≡ 8) × (length theirs ≡ 8) ⌝ }
+fn common_set(mine: [Entry; STALLS], theirs: [Entry; STALLS], n: u8) -> u64
+    requires { ⌜ (n ≤ largest) × (length mine ≡ largest) × (length theirs ≡ largest) ⌝ }
     ensures { λ r. ⌜ r ≡ bits n (common n (nameIn mine) (nameIn theirs)) ⌝ }
 {
     let mut set = 0u64;
@@ -149,17 +150,17 @@ fn judge_all(
     n: u8,
     p: u8,
     q: u8,
-    mine: [Entry; 8],
-    theirs: [Entry; 8],
+    mine: [Entry; STALLS],
+    theirs: [Entry; STALLS],
     set: u64,
     other: u64,
-) -> [u8; 8]
+) -> [u8; STALLS]
     requires { ⌜ Framed (now first) n p × Framed (now second) n q ⌝ }
     requires { ⌜ (mine ≡ ownRow (now first) n p) × (theirs ≡ ownRow (now second) n q) ⌝ }
     requires { ⌜ (set ≡ bits n (common n (nameIn mine) (nameIn theirs))) × (other ≡ bits n (common n (nameIn theirs) (nameIn mine))) ⌝ }
     ensures { λ r. ⌜ Judged (now (first .entry)) (now (second .entry)) n p q n r ⌝ }
 {
-    let mut out = [0u8; 8];
+    let mut out = [0u8; STALLS];
     let m = wide(n);
     let mut at = first.len() - m;
     let mut r = 0usize;
@@ -174,7 +175,7 @@ fn judge_all(
 }
 
 // The verdicts of a meeting.
-pub(crate) fn verdicts(first: &[u8], second: &[u8], n: u8, p: u8, q: u8) -> [u8; 8]
+pub(crate) fn verdicts(first: &[u8], second: &[u8], n: u8, p: u8, q: u8) -> [u8; STALLS]
     requires { ⌜ Framed (now first) n p × Framed (now second) n q ⌝ }
     ensures { λ r. ⌜ Judged (now (first .entry)) (now (second .entry)) n p q n r ⌝ }
 {
@@ -186,8 +187,8 @@ pub(crate) fn verdicts(first: &[u8], second: &[u8], n: u8, p: u8, q: u8) -> [u8;
 }
 
 // Some verdict is 9.
-pub(crate) fn is_undecided(out: [u8; 8], n: u8) -> bool
-    requires { ⌜ (n ≤ largest) × (length out ≡ 8) ⌝ }
+pub(crate) fn is_undecided(out: [u8; STALLS], n: u8) -> bool
+    requires { ⌜ (n ≤ largest) × (length out ≡ largest) ⌝ }
     ensures { λ b. ⌜ b ≡ some n (λ r. eqb (verdictIn out r) 9) ⌝ }
 {
     let m = wide(n);

@@ -19,10 +19,11 @@ use crate::rows::merged_rows;
 use crate::write::write_body;
 use crate::yields::merged_yields;
 use image::Checked;
+use image::STALLS;
 use image::bytes::wide;
 
 // Both images after the meeting, and its label. All is read before a byte is written.
-fn write_meeting(first: &mut [u8], second: &mut [u8], n: u8, p: u8, q: u8, verdicts: [u8; 8]) -> u8
+fn write_meeting(first: &mut [u8], second: &mut [u8], n: u8, p: u8, q: u8, verdicts: [u8; STALLS]) -> u8
     requires { ⌜ Framed (now first) n p × Framed (now second) n q × Judged (now first) (now second) n p q n verdicts ⌝ }
     ensures { λ r.
         ⌜ (r ≡ newLabel n p (tableOf (now (first .entry)) n) q (tableOf (now (second .entry)) n))
@@ -42,8 +43,8 @@ fn write_meeting(first: &mut [u8], second: &mut [u8], n: u8, p: u8, q: u8, verdi
 }
 
 // The verdicts into a buffer.
-fn write_verdicts(buffer: &mut [u8], verdicts: [u8; 8])
-    requires { ⌜ (length (now buffer) ≤ largest) × (length verdicts ≡ 8) ⌝ }
+fn write_verdicts(buffer: &mut [u8], verdicts: [u8; STALLS])
+    requires { ⌜ (length (now buffer) ≤ largest) × (length verdicts ≡ largest) ⌝ }
     ensures { λ r. ⌜ now (buffer .exit) ≡ take (length (now (buffer .entry))) verdicts ⌝ }
 {
     let mut i = 0usize;

@@ -11,6 +11,8 @@ ghost use Rattle.merge.specs.Judged.{verdictIn, Judged};
 ghost use Rattle.merge.specs.Orders.{Sorted, orderOf, heardFrom, Ordered};
 use crate::Sets;
 use image::Entry;
+use image::ROW;
+use image::STALLS;
 use image::bytes::wide;
 use image::marks::pick;
 use image::marks::widen;
@@ -18,8 +20,8 @@ use image::rows::is_never;
 use image::rows::own_row;
 
 // The stalls by who has them.
-fn sorted(verdicts: [u8; 8], n: u8, p: u8, q: u8) -> Sets
-    requires { ⌜ (n ≤ largest) × (length verdicts ≡ 8) ⌝ }
+fn sorted(verdicts: [u8; STALLS], n: u8, p: u8, q: u8) -> Sets
+    requires { ⌜ (n ≤ largest) × (length verdicts ≡ largest) ⌝ }
     ensures { λ r. ⌜ Sorted n p q (verdictIn verdicts) n r ⌝ }
 {
     let mut pair = 0u64;
@@ -97,17 +99,17 @@ pub(crate) fn merged_orders(
     n: u8,
     p: u8,
     q: u8,
-    verdicts: [u8; 8],
-    mine: [Entry; 8],
-    theirs: [Entry; 8],
+    verdicts: [u8; STALLS],
+    mine: [Entry; STALLS],
+    theirs: [Entry; STALLS],
     x: Sets,
-) -> [u8; 16]
+) -> [u8; ROW]
     requires { ⌜ Framed (now first) n p × Framed (now second) n q ⌝ }
     requires { ⌜ (mine ≡ ownRow (now first) n p) × (theirs ≡ ownRow (now second) n q) ⌝ }
     requires { ⌜ Judged (now first) (now second) n p q n verdicts × Sorted n p q (verdictIn verdicts) n x ⌝ }
     ensures { λ r. ⌜ Ordered (now (first .entry)) (now (second .entry)) n p q n r ⌝ }
 {
-    let mut out = [0u8; 16];
+    let mut out = [0u8; ROW];
     let m = wide(n);
     let mut at = first.len() - m;
     let mut s = 1u8;
@@ -139,8 +141,8 @@ pub(crate) fn orders_after(
     n: u8,
     p: u8,
     q: u8,
-    verdicts: [u8; 8],
-) -> [u8; 16]
+    verdicts: [u8; STALLS],
+) -> [u8; ROW]
     requires { ⌜ Framed (now first) n p × Framed (now second) n q × Judged (now first) (now second) n p q n verdicts ⌝ }
     ensures { λ r. ⌜ Ordered (now (first .entry)) (now (second .entry)) n p q n r ⌝ }
 {

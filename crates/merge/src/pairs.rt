@@ -8,6 +8,8 @@ ghost use Rattle.image.specs.Layout.{largest};
 ghost use Rattle.image.specs.Stalls.{each};
 ghost use Rattle.merge.specs.Judged.{verdictIn};
 ghost use Rattle.merge.specs.Body.{pairAt, pairBytes, padded, mixedPair};
+use image::ROW;
+use image::STALLS;
 
 // Two bytes of an image: a name, or a yield.
 pub struct Pair {
@@ -61,12 +63,12 @@ pub(crate) fn mixed(
     second: &[u8],
     b: Side,
     n: usize,
-    verdicts: [u8; 8],
-) -> [u8; 16]
-    requires { ⌜ (n ≤ largest) × (a .at + n * 2 ≤ length (now first)) × (b .at + n * 2 ≤ length (now second)) × (length verdicts ≡ 8) ⌝ }
+    verdicts: [u8; STALLS],
+) -> [u8; ROW]
+    requires { ⌜ (n ≤ largest) × (a .at + n * 2 ≤ length (now first)) × (b .at + n * 2 ≤ length (now second)) × (length verdicts ≡ largest) ⌝ }
     ensures { λ r. ⌜ r ≡ padded n (each n (mixedPair (now (first .entry)) a (now (second .entry)) b (verdictIn verdicts))) ⌝ }
 {
-    let mut row = [0u8; 16];
+    let mut row = [0u8; ROW];
     let mut c = 0usize;
     while c < n {
         let x = pick(first, a, second, b, c + 1, c + c, verdicts[c]);

@@ -13,15 +13,17 @@ ghost use Rattle.merge.specs.Body.{padded, latestPair, bodyRow};
 use crate::pairs::Pair;
 use crate::pairs::Side;
 use crate::pairs::mixed;
+use image::ROW;
+use image::STALLS;
 use image::bytes::row_place;
 use image::bytes::wide;
 
 // The bytes of n names from a place on.
-pub(crate) fn row_of(image: &[u8], at: usize, n: usize) -> [u8; 16]
+pub(crate) fn row_of(image: &[u8], at: usize, n: usize) -> [u8; ROW]
     requires { ⌜ (n ≤ largest) × (at + n * 2 ≤ length (now image)) ⌝ }
     ensures { λ r. ⌜ r ≡ padded n (take (n * 2) (drop at (now (image .entry)))) ⌝ }
 {
-    let mut row = [0u8; 16];
+    let mut row = [0u8; ROW];
     let mut i = 0usize;
     while i < n + n {
         row[i] = image[at + i];
@@ -31,8 +33,8 @@ pub(crate) fn row_of(image: &[u8], at: usize, n: usize) -> [u8; 16]
 }
 
 // The rows with another one at an index.
-fn with_row(rows: [[u8; 16]; 8], i: usize, row: [u8; 16]) -> [[u8; 16]; 8]
-    requires { ⌜ i < 8 ⌝ }
+fn with_row(rows: [[u8; ROW]; STALLS], i: usize, row: [u8; ROW]) -> [[u8; ROW]; STALLS]
+    requires { ⌜ i < largest ⌝ }
     ensures { λ r. ⌜ r ≡ set rows i row ⌝ }
 {
     let mut next = rows;
@@ -48,9 +50,9 @@ pub(crate) fn latest_row(
     p: u8,
     q: u8,
     k: u8,
-    verdicts: [u8; 8],
-) -> [u8; 16]
-    requires { ⌜ Framed (now first) n p × Framed (now second) n q × (length verdicts ≡ 8) ⌝ }
+    verdicts: [u8; STALLS],
+) -> [u8; ROW]
+    requires { ⌜ Framed (now first) n p × Framed (now second) n q × (length verdicts ≡ largest) ⌝ }
     ensures { λ r. ⌜ r ≡ padded n (each n (latestPair (now (first .entry)) (now (second .entry)) n p q k (verdictIn verdicts))) ⌝ }
 {
     let a = Side {
@@ -74,8 +76,8 @@ fn row_after(
     at: usize,
     met: bool,
     verdict: u8,
-    latest: [u8; 16],
-) -> [u8; 16]
+    latest: [u8; ROW],
+) -> [u8; ROW]
     requires { ⌜ (n ≤ largest) × (at + n * 2 ≤ length (now first)) × (at + n * 2 ≤ length (now second)) ⌝ }
     ensures { λ r.
         ⌜ r
@@ -98,10 +100,10 @@ pub(crate) fn merged_rows(
     p: u8,
     q: u8,
     k: u8,
-    verdicts: [u8; 8],
-) -> [[u8; 16]; 8]
-    requires { ⌜ Framed (now first) n p × Framed (now second) n q × (length verdicts ≡ 8) ⌝ }
-    ensures { λ s. ⌜ length s ≡ 8 ⌝ }
+    verdicts: [u8; STALLS],
+) -> [[u8; ROW]; STALLS]
+    requires { ⌜ Framed (now first) n p × Framed (now second) n q × (length verdicts ≡ largest) ⌝ }
+    ensures { λ s. ⌜ length s ≡ largest ⌝ }
     ensures row { λ s.
         ⌜ ((r : ℕ) → 1 ≤ r → r ≤ n
         → getD s (r - 1) [] ≡ padded n (bodyRow (now (first .entry)) (now (second .entry)) n p q k (verdictIn verdicts) r)) ⌝ }
@@ -110,7 +112,7 @@ pub(crate) fn merged_rows(
     let x = wide(p);
     let y = wide(q);
     let latest = latest_row(first, second, n, p, q, k, verdicts);
-    let mut rows = [[0u8; 16]; 8];
+    let mut rows = [[0u8; ROW]; STALLS];
     let mut at = 4usize;
     let mut c = 0usize;
     while c < m {

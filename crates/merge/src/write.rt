@@ -3,13 +3,16 @@ ghost use mathlib.Core.Path.{_≡_};
 ghost use Prim.Native.Nat.{ℕ, _+_, _-_, _*_, _≤_};
 ghost use mathlib.Core.List.{[], _++_};
 ghost use lib.ListN.{length, take, drop, getD};
+ghost use Rattle.image.specs.Layout.{ordersPlace, yieldsPlace, largest, longestRow};
 ghost use Rattle.image.specs.Frame.{Sized};
 ghost use Rattle.image.specs.Stalls.{each};
 ghost use Rattle.merge.specs.Body.{rowIn};
+use image::ROW;
+use image::STALLS;
 
 // The first bytes of a row at a place.
-pub(crate) fn write_at(image: &mut [u8], at: usize, count: usize, bytes: [u8; 16])
-    requires { ⌜ (count ≤ 16) × (at + count ≤ length (now image)) × (length bytes ≡ 16) ⌝ }
+pub(crate) fn write_at(image: &mut [u8], at: usize, count: usize, bytes: [u8; ROW])
+    requires { ⌜ (count ≤ longestRow) × (at + count ≤ length (now image)) × (length bytes ≡ longestRow) ⌝ }
     ensures { λ r. ⌜ now (image .exit) ≡ take at (now (image .entry)) ++ take count bytes ++ drop (at + count) (now (image .entry)) ⌝ }
 {
     let mut i = 0usize;
@@ -20,11 +23,11 @@ pub(crate) fn write_at(image: &mut [u8], at: usize, count: usize, bytes: [u8; 16
 }
 
 // The rows of n stalls.
-pub(crate) fn write_rows(image: &mut [u8], n: usize, rows: [[u8; 16]; 8])
-    requires { ⌜ Sized (now image) n × (length rows ≡ 8) × ((r : ℕ) → 1 ≤ r → r ≤ n → length (getD rows (r - 1) []) ≡ 16) ⌝ }
+pub(crate) fn write_rows(image: &mut [u8], n: usize, rows: [[u8; ROW]; STALLS])
+    requires { ⌜ Sized (now image) n × (length rows ≡ largest) × ((r : ℕ) → 1 ≤ r → r ≤ n → length (getD rows (r - 1) []) ≡ longestRow) ⌝ }
     ensures { λ r.
         ⌜ now (image .exit)
-        ≡ take 4 (now (image .entry)) ++ each n (rowIn rows n) ++ drop (4 + n * (n + n)) (now (image .entry)) ⌝ }
+        ≡ take 4 (now (image .entry)) ++ each n (rowIn rows n) ++ drop (yieldsPlace n) (now (image .entry)) ⌝ }
 {
     let mut at = 4usize;
     let mut c = 0usize;
@@ -37,11 +40,11 @@ pub(crate) fn write_rows(image: &mut [u8], n: usize, rows: [[u8; 16]; 8])
 }
 
 // The yields of n stalls.
-pub(crate) fn write_yields(image: &mut [u8], n: usize, yields: [u8; 16])
-    requires { ⌜ Sized (now image) n × (length yields ≡ 16) ⌝ }
+pub(crate) fn write_yields(image: &mut [u8], n: usize, yields: [u8; ROW])
+    requires { ⌜ Sized (now image) n × (length yields ≡ longestRow) ⌝ }
     ensures { λ r.
         ⌜ now (image .exit)
-        ≡ take (4 + n * (n + n)) (now (image .entry)) ++ take (n * 2) yields ++ drop (4 + n * (n + n) + n * 2) (now (image .entry)) ⌝ }
+        ≡ take (yieldsPlace n) (now (image .entry)) ++ take (n * 2) yields ++ drop (ordersPlace n) (now (image .entry)) ⌝ }
 {
     let at = image.len() - (n + n + n);
     write_at(image, at, n + n, yields);
@@ -51,12 +54,12 @@ pub(crate) fn write_yields(image: &mut [u8], n: usize, yields: [u8; 16])
 pub(crate) fn write_body(
     image: &mut [u8],
     n: usize,
-    rows: [[u8; 16]; 8],
-    yields: [u8; 16],
-    orders: [u8; 16],
+    rows: [[u8; ROW]; STALLS],
+    yields: [u8; ROW],
+    orders: [u8; ROW],
 )
-    requires { ⌜ Sized (now image) n × (length rows ≡ 8) × ((r : ℕ) → 1 ≤ r → r ≤ n → length (getD rows (r - 1) []) ≡ 16) ⌝ }
-    requires { ⌜ (length yields ≡ 16) × (length orders ≡ 16) ⌝ }
+    requires { ⌜ Sized (now image) n × (length rows ≡ largest) × ((r : ℕ) → 1 ≤ r → r ≤ n → length (getD rows (r - 1) []) ≡ longestRow) ⌝ }
+    requires { ⌜ (length yields ≡ longestRow) × (length orders ≡ longestRow) ⌝ }
     ensures { λ r.
         ⌜ now (image .exit) ≡ take 4 (now (image .entry)) ++ each n (rowIn rows n) ++ take (n * 2) yields ++ take n orders ⌝ }
 {

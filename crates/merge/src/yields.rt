@@ -1,6 +1,7 @@
 // The yields that both heads hold after a meeting, by value.
 ghost use mathlib.Core.Path.{_≡_};
 ghost use lib.ListN.{length};
+ghost use Rattle.image.specs.Layout.{largest};
 ghost use Rattle.image.specs.Frame.{Framed};
 ghost use Rattle.image.specs.Stalls.{each};
 ghost use Rattle.merge.specs.Judged.{verdictIn};
@@ -8,6 +9,8 @@ ghost use Rattle.merge.specs.Body.{padded, bodyYield};
 use crate::pairs::Side;
 use crate::pairs::mixed;
 use crate::pairs::pair_at;
+use image::ROW;
+use image::STALLS;
 use image::bytes::wide;
 
 // The yields of n stalls, with zeros behind them: for the two that met their current ones.
@@ -17,9 +20,9 @@ pub(crate) fn merged_yields(
     n: u8,
     p: u8,
     q: u8,
-    verdicts: [u8; 8],
-) -> [u8; 16]
-    requires { ⌜ Framed (now first) n p × Framed (now second) n q × (length verdicts ≡ 8) ⌝ }
+    verdicts: [u8; STALLS],
+) -> [u8; ROW]
+    requires { ⌜ Framed (now first) n p × Framed (now second) n q × (length verdicts ≡ largest) ⌝ }
     ensures { λ r. ⌜ r ≡ padded n (each n (bodyYield (now (first .entry)) (now (second .entry)) n p q (verdictIn verdicts))) ⌝ }
 {
     let m = wide(n);

@@ -12,13 +12,13 @@ wilbryn-fresh-spec =
     tie.close
     (tie.spec
     (λ c κs. tt)
-    (λ c. fresh-1 _ _ _ (sym (c .before .bad-range .ensures) ∙ c .if1 .taken))
+    (λ c. fresh-1 _ _ _ (sym (c .before .bad-count .ensures) ∙ c .if1 .taken))
     (λ c κs. tt)
     (λ c κs. tt)
-    (λ c. fresh-2 _ _ _ (sym (c .before .before .before .before .bad-range .ensures) ∙ c .before .before .before .if1 .left) (λ e. c .if2 .taken (e ∙ sym (c .before .length-of .ensures ∙ ap lengthOf (c .before .before .wide .ensures .0)))))
+    (λ c. fresh-2 _ _ _ (sym (c .before .before .before .before .bad-count .ensures) ∙ c .before .before .before .if1 .left) (λ e. c .if2 .taken (e ∙ sym (c .before .length-of .ensures ∙ ap lengthOf (c .before .before .wide .ensures .0)))))
     (λ c κs. tt)
-    (λ c. fresh-3 _ _ _ (sym (c .before .before .before .before .before .before .bad-range .ensures) ∙ c .before .before .before .before .before .if1 .left) (c .before .before .if2 .left ∙ c .before .before .before .length-of .ensures ∙ ap lengthOf (c .before .before .before .before .wide .ensures .0)) (sym (c .before .bad-range2 .ensures) ∙ c .if3 .taken))
+    (λ c. fresh-3 _ _ _ (sym (c .before .before .before .before .before .before .bad-count .ensures) ∙ c .before .before .before .before .before .if1 .left) (c .before .before .if2 .left ∙ c .before .before .before .length-of .ensures ∙ ap lengthOf (c .before .before .before .before .wide .ensures .0)) (sym (c .before .bad-stall .ensures) ∙ c .if3 .taken))
     (λ c κs. tt)
-    (λ c κs. (fresh-short (c .before .before .before .before .before .before .before .before .before .before .before .args .image .now) (c .before .before .before .before .before .before .before .before .before .before .before .args .n) (c .before .before .before .before .before .before .before .before .before .before .before .args .stall) (sym (c .before .before .before .before .before .before .before .before .before .bad-range .ensures) ∙ c .before .before .before .before .before .before .before .before .if1 .left) (c .before .before .before .before .before .if2 .left ∙ c .before .before .before .before .before .before .length-of .ensures ∙ ap lengthOf (c .before .before .before .before .before .before .before .wide .ensures .0)), ap length (c .before .before .fresh .ensures)))
+    (λ c κs. (fresh-short (c .before .before .before .before .before .before .before .before .before .before .before .args .image .now) (c .before .before .before .before .before .before .before .before .before .before .before .args .n) (c .before .before .before .before .before .before .before .before .before .before .before .args .stall) (sym (c .before .before .before .before .before .before .before .before .before .bad-count .ensures) ∙ c .before .before .before .before .before .before .before .before .if1 .left) (c .before .before .before .before .before .if2 .left ∙ c .before .before .before .before .before .before .length-of .ensures ∙ ap lengthOf (c .before .before .before .before .before .before .before .wide .ensures .0)), ap length (c .before .before .fresh .ensures)))
     (λ c. search needs)
-    (λ c. fresh-done _ _ _ _ _ (sym (c .before .before .before .before .before .before .before .before .before .before .before .before .bad-range .ensures) ∙ c .before .before .before .before .before .before .before .before .before .before .before .if1 .left) (c .before .before .before .before .before .before .before .before .if2 .left ∙ c .before .before .before .before .before .before .before .before .before .length-of .ensures ∙ ap lengthOf (c .before .before .before .before .before .before .before .before .before .before .wide .ensures .0)) (sym (c .before .before .before .before .before .before .before .bad-range2 .ensures) ∙ c .before .before .before .before .before .before .if3 .left) (c .before .before .write-table .ensures) (c .before .before .before .before .before .fresh .ensures)))
+    (λ c. fresh-done _ _ _ _ _ (sym (c .before .before .before .before .before .before .before .before .before .before .before .before .bad-count .ensures) ∙ c .before .before .before .before .before .before .before .before .before .before .before .if1 .left) (c .before .before .before .before .before .before .before .before .if2 .left ∙ c .before .before .before .before .before .before .before .before .before .length-of .ensures ∙ ap lengthOf (c .before .before .before .before .before .before .before .before .before .before .wide .ensures .0)) (sym (c .before .before .before .before .before .before .before .bad-stall .ensures) ∙ c .before .before .before .before .before .before .if3 .left) (c .before .before .write-table .ensures) (c .before .before .before .before .before .fresh .ensures)))

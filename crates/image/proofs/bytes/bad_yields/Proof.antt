@@ -8,7 +8,7 @@ use borrow.Author.Needs.{needs}
 use lib.Dec.{ltb}
 use lib.ListN.{length}
 use Rattle.image.specs.Stalls.{some}
-use Rattle.image.specs.Layout.{word, yieldLimit}
+use Rattle.image.specs.Layout.{word, yieldLimit, yieldsPlace}
 use Rattle.image.specs.Frame.{Framed}
 use Rattle.image.specs.Check.{badYields}
 use Rattle.image.proofs.bytes.bad_yields.Statement.{statement}
@@ -18,7 +18,7 @@ yields-test : (s : List ℕ) (n own m x : ℕ) (over : Bool) → Framed s n own 
     → over ≡ some m (λ r. ltb yieldLimit (word s (length s - (m + m + m) + (r - 1) * 2))) → (ltb 999 x || over) ≡ badYields s n
 unfolding badYields
 yields-test s n own m x over f e i d =
-    let a : length s - (n + n + n) ≡ 4 + n * (n + n) = omega (arith, f .long) in
+    let a : length s - (n + n + n) ≡ yieldsPlace n = omega (arith, f .long) in
     rw (i, d, e, a)
 
 pub bad-yields-spec : {M : Type 1} → statement M
