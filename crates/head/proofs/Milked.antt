@@ -7,6 +7,7 @@ use lib.ListN.{length, getD, set, length-set}
 use lib.Seq.{getD-set-same, getD-set-other}
 use Rattle.image.specs.Layout.{yieldLimit, currentAt}
 use Rattle.image.proofs.Accepted.{Accepted}
+use Rattle.image.proofs.Yields.{yield-in}
 use Rattle.image.proofs.SameBody.{same-accepted}
 use Rattle.head.specs.Calls.{withCurrent}
 
@@ -33,4 +34,4 @@ module _ (s : List ℕ) (yield : ℕ) where
       length-milked
       (milked-other 0 (λ e. omega arith) (λ e. omega arith))
       (milked-other 1 (λ e. omega arith) (λ e. omega arith))
-      (rw (milked-current (omega (arith, w .frame .long))) l)
+      (rw (milked-current (omega (arith, w .frame .long))) (yield-in yield l))

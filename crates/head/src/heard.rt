@@ -53,7 +53,13 @@ fn clear_from(records: &mut [u8], at: usize)
 }
 
 // The records of the heard stalls of a row, by stall number, and where they end.
-fn put_records(image: &[u8], n: usize, yields: usize, row: [Entry; STALLS], records: &mut [u8]) -> usize
+fn put_records(
+    image: &[u8],
+    n: usize,
+    yields: usize,
+    row: [Entry; STALLS],
+    records: &mut [u8],
+) -> usize
     requires { ⌜ (n ≤ largest) × (yields + n * 2 ≤ length (now image)) × (length (now records) ≡ 3 * n) × (length row ≡ largest) ⌝ }
     ensures { λ r.
         ⌜ (r ≡ 3 * length (chosen n (heardIn row)))

@@ -12,7 +12,7 @@ use Rattle.image.specs.Stalls.{some, each, bits, has}
 use Rattle.image.specs.Layout.{largest, labelLimit, noYield, word, namePlace, yieldPlace, orderPlace, currentAt, partnerAt, labelAt, yieldAt, orderAt, markAt, nameFrom, nameAt, heardAt, imageLength, ordersPlace, yieldsPlace}
 use Rattle.image.specs.Frame.{Framed}
 use Rattle.image.specs.Check.{badName, badDiagonal, badUnheard, badRow, badNames, badOrder, badMarks}
-use Rattle.image.specs.Encode.{Table, nameBytes, wordBytes, encode, tableOf}
+use Rattle.image.specs.Encode.{Table, nameBytes, wordBytes, encode, tableOf, nothing}
 use Rattle.image.specs.declared.Name.{Name}
 use Rattle.image.specs.declared.Name.the-variants.{Never, With}
 use Rattle.image.proofs.Bits.{has-ext, has-bits, bits-lt}
@@ -279,11 +279,7 @@ encode-accepted s n own f count stall bytes names marks =
         rw (bits-back n (orderAt s n r) (f .n-to) (bytes (orderPlace n r)) (λ t. no-mark s n own marks r t i j))
         (has-one _ (omega arith) refl)
 
--- The image of a table that says nothing
-
-unfoldable pub nothing : Table
-nothing =
-    record { current = noYield; names = λ r c. Never; yields = λ r. noYield; order = λ r s. false }
+-- The image of a table that has heard nobody
 
 pub bits-none : (n : ℕ) → bits n (λ s. false) ≡ 0
 unfolding bits

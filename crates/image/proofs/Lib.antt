@@ -6,6 +6,7 @@ pub mod Gather
 pub mod Places
 pub mod OrderByte
 pub mod Stages
+pub mod Yields
 pub mod Overwrite
 pub mod Has
 pub mod Encoding

@@ -1,19 +1,19 @@
 -- Well-made tables: the one that says nothing, a milked one, and one that says the same.
 use Prim.Native.Nat.{ℕ, _≤_}
 use mathlib.Core.Path.{_≡_, refl}
-use mathlib.Core.Bool.{false≢true}
+use mathlib.Core.Bool.{true, false≢true}
 use native.Mathlib.Omega.{arith}
-use Rattle.image.specs.Layout.{yieldLimit}
-use Rattle.image.specs.Encode.{Table}
+use Rattle.image.specs.Layout.{isYield}
+use Rattle.image.specs.Encode.{Table, nothing}
 use Rattle.image.specs.Made.{Made}
-use Rattle.image.proofs.Encoding.{nothing}
+use Rattle.image.proofs.Yields.{yield-none}
 
 pub nothing-made : (n own : ℕ) → Made n own nothing
 unfolding nothing
 nothing-made n own =
     record {
-      current-in = omega arith;
-      yields-in = λ r i j. omega arith;
+      current-in = yield-none;
+      yields-in = λ r i j. yield-none;
       names-in = λ r c i j k l. tt;
       diagonal = λ r i j. refl;
       unheard-row = λ r c i j k l e. refl;
@@ -23,7 +23,7 @@ nothing-made n own =
       marked-own = λ r i j h. absurd (h refl);
     }
 
-pub milked-made : {n own : ℕ} {t : Table} (y : ℕ) → Made n own t → y ≤ yieldLimit
+pub milked-made : {n own : ℕ} {t : Table} (y : ℕ) → Made n own t → isYield y ≡ true
     → Made n own (record { current = y; names = t .names; yields = t .yields; order = t .order })
 milked-made y m l =
     record {

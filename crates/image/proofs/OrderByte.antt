@@ -33,4 +33,4 @@ order-test s n own r b one ownbit set heard l e h g o w =
         (ap₂ (λ x y. has (cond x y 0) t) h g ∙ allowed n (heardAt s n own) (heardAt s n own r) t p)
 
     outside : not (eqb (bitAnd b (cond heard set 0)) b) ≡ some largest (λ t. has (orderAt s n r) t && not (heardAt s n own r && (leb t n && heardAt s n own t)))
-    outside = ap not (part-test 8 (cond heard set 0) b l) ∙ Bool·not-not _ ∙ some-agree largest _ _ one-mark
+    outside = ap not (part-test largest (cond heard set 0) b l) ∙ Bool·not-not _ ∙ some-agree largest _ _ one-mark

@@ -21,7 +21,7 @@ unfolding entryAt nameAt
 entry-name s n own c b = rw (le-leb c n b)
 
 module _ (s : List ℕ) (n own : ℕ) (f : Framed s n own) where
-  pub own-row-long : length (ownRow s n own) ≡ 8
+  pub own-row-long : length (ownRow s n own) ≡ largest
   own-row-long = ap length (own-row-is s n own f) ∙ length-tabulate largest (entryAt s n (rowPlace n own))
 
   pub own-row-name : (c : ℕ) → 1 ≤ c → c ≤ n → getD (ownRow s n own) (c - 1) (neverAt 0) .name ≡ nameAt s n own c

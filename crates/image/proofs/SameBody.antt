@@ -1,14 +1,13 @@
 -- Names, yields and marks are read from byte 4 on: two images with the same bytes there pass the same checks.
 use Prim.Native.Nat.{ℕ, _+_, _*_, _≤_}
 use mathlib.Core.Path.{_≡_, ap, ap₂, _∙_}
-use mathlib.Core.Bool.{_&&_, _||_, not}
+use mathlib.Core.Bool.{true, _&&_, _||_, not}
 use mathlib.Core.List.{List}
 use native.Mathlib.Omega.{arith}
-use borrow.Author.Tests.{le-ltb}
-use lib.Dec.{leb, ltb, eqb}
+use lib.Dec.{leb, eqb}
 use lib.ListN.{length, getD}
 use Rattle.image.specs.Stalls.{some, has}
-use Rattle.image.specs.Layout.{largest, yieldLimit, labelLimit, noYield, namePlace, yieldPlace, orderPlace, currentAt, partnerAt, labelAt, yieldAt, markAt, heardAt}
+use Rattle.image.specs.Layout.{largest, isYield, labelLimit, noYield, namePlace, yieldPlace, orderPlace, currentAt, partnerAt, labelAt, yieldAt, markAt, heardAt}
 use Rattle.image.specs.Check.{badName, badDiagonal, badUnheard, badRow, badNames, badOrder, badMarks, badYields}
 use Rattle.image.proofs.Search.{some-agree}
 use Rattle.image.proofs.Accepted.{Accepted, not-either}
@@ -56,17 +55,17 @@ module _ (s u : List ℕ) (n own : ℕ) (same : (k : ℕ) → 4 ≤ k → getD u
       (some-agree largest _ _ (λ t a b. ap₂ (λ m h. m && not h) (mark-same r t) (ap₂ (λ h i. h && (leb t n && i)) (heard-same r) (heard-same t))))
       (ap₂ (λ h m. h && not m) (heard-same r) (ap₂ _&&_ (mark-same r r) (mark-same r own)))
 
-  -- so an accepted image stays accepted when its current yield alone changes, within the limit
-  pub same-accepted : Accepted s n own → length u ≡ length s → getD u 0 0 ≡ getD s 0 0 → getD u 1 0 ≡ getD s 1 0 → currentAt u ≤ yieldLimit → Accepted u n own
+  -- so an accepted image stays accepted when its current yield alone changes; it has to be a yield
+  pub same-accepted : Accepted s n own → length u ≡ length s → getD u 0 0 ≡ getD s 0 0 → getD u 1 0 ≡ getD s 1 0 → isYield (currentAt u) ≡ true → Accepted u n own
   unfolding badNames badMarks badYields
   same-accepted w e i j l =
       let f = w .frame in
-      let over = not-either (ltb yieldLimit (currentAt s)) (some n (λ r. ltb yieldLimit (yieldAt s n r))) (w .yields) .1 in
+      let over = not-either (not (isYield (currentAt s))) (some n (λ r. not (isYield (yieldAt s n r)))) (w .yields) .1 in
       record {
         frame = record { n-from = f .n-from; n-to = f .n-to; own-from = f .own-from; own-to = f .own-to; long = e ∙ f .long };
         count = i ∙ w .count;
         stall = j ∙ w .stall;
-        yields = ap₂ _||_ (le-ltb yieldLimit (currentAt u) l) (some-agree n _ _ (λ r a b. ap (ltb yieldLimit) (yield-same r)) ∙ over);
+        yields = ap₂ _||_ (ap not l) (some-agree n _ _ (λ r a b. ap (λ y. not (isYield y)) (yield-same r)) ∙ over);
         names = some-agree n _ _ (λ r a b. row-same r) ∙ w .names;
         marks = some-agree n _ _ (λ r a b. order-same r) ∙ w .marks;
       }

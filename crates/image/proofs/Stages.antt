@@ -8,17 +8,21 @@ use native.Mathlib.Nat.{mul-le-mul}
 use borrow.Author.Tests.{leb-true, le-leb, eq-eqb, ne-eqb}
 use lib.Dec.{leb}
 use lib.ListN.{length, getD}
-use Rattle.image.specs.Layout.{largest, lengthOf}
+use Rattle.image.specs.Layout.{largest, longest, lengthOf, imageLength}
 use Rattle.image.specs.Frame.{Sized, Framed}
 use Rattle.image.specs.Check.{badCount, badLength, badStall, badYields, badNames, badMarks, checkBody, checked, numberOf}
 use Rattle.image.specs.declared.Checked.{Checked}
 use Rattle.image.specs.declared.Checked.the-variants.{Good, Refused}
 
--- a range test that did not fail
--- the length of an image of 2 to 8 stalls
-pub length-range : (n : ℕ) → 2 ≤ n → n ≤ largest → (18 ≤ lengthOf n) × (lengthOf n ≤ 156)
+-- the length of an image, by its places
+pub length-is : (n : ℕ) → 2 ≤ n → n ≤ largest → lengthOf n ≡ imageLength n
+length-is n a b = rw (le-leb 2 n a, le-leb n largest b) (omega arith)
+
+-- and within which bounds it lies
+pub length-range : (n : ℕ) → 2 ≤ n → n ≤ largest → (18 ≤ lengthOf n) × (lengthOf n ≤ longest)
 length-range n a b = rw (le-leb 2 n a, le-leb n largest b) (omega (arith, mul-le-mul a a), omega (arith, mul-le-mul b b))
 
+-- a range test that did not fail
 pub in-range : (a b x : ℕ) → not (leb a x && leb x b) ≡ false → (a ≤ x) × (x ≤ b)
 in-range a b x e = go (leb a x) (leb x b) refl refl e
   where

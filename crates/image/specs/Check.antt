@@ -5,7 +5,7 @@ use mathlib.Core.List.{List}
 use lib.Dec.{leb, ltb, eqb}
 use lib.ListN.{length, getD}
 use Rattle.image.specs.Stalls.{some}
-use Rattle.image.specs.Layout.{largest, isCount, yieldLimit, labelLimit, noYield, lengthOf, currentAt, partnerAt, labelAt, yieldAt, markAt, heardAt}
+use Rattle.image.specs.Layout.{largest, isCount, isYield, labelLimit, noYield, lengthOf, currentAt, partnerAt, labelAt, yieldAt, markAt, heardAt}
 use Rattle.image.specs.declared.Checked.{Checked}
 use Rattle.image.specs.declared.Checked.the-variants.{Good, Refused}
 
@@ -23,7 +23,7 @@ badStall n own = not (leb 1 own && leb own n)
 
 -- 4: "current, stall .. yield over 999"
 unfoldable pub badYields : List ℕ → ℕ → Bool
-badYields s n = ltb yieldLimit (currentAt s) || some n (λ r. ltb yieldLimit (yieldAt s n r))
+badYields s n = not (isYield (currentAt s)) || some n (λ r. not (isYield (yieldAt s n r)))
 
 -- 5, of one name in column c: "partner 0 with label not 0; partner above N or equal to the column; label above 4 × N"
 abbrev pub badName : ℕ → ℕ → ℕ → ℕ → ℕ → Bool

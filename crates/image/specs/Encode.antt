@@ -1,9 +1,9 @@
 -- A table as what it says, and the image of it.
 use Prim.Native.Nat.{ℕ, _/_, _%_}
-use mathlib.Core.Bool.{Bool}
+use mathlib.Core.Bool.{Bool, false}
 use mathlib.Core.List.{List, [], _∷_, _++_}
 use Rattle.image.specs.Stalls.{each, bits}
-use Rattle.image.specs.Layout.{currentAt, yieldAt, nameAt, markAt}
+use Rattle.image.specs.Layout.{noYield, currentAt, yieldAt, nameAt, markAt}
 use Rattle.image.specs.declared.Name.{Name}
 use Rattle.image.specs.declared.Name.the-variants.{Never, With}
 
@@ -13,6 +13,10 @@ pub record Table : Type 0 where
   pub names : ℕ → ℕ → Name
   pub yields : ℕ → ℕ
   pub order : ℕ → ℕ → Bool
+
+-- the table of a head that was not milked and has heard nobody
+unfoldable pub nothing : Table
+nothing = record { current = noYield; names = λ r c. Never; yields = λ r. noYield; order = λ r s. false }
 
 -- a name as two bytes
 abbrev pub nameBytes : Name → List ℕ

@@ -4,14 +4,20 @@ use mathlib.Core.Path.{_≡_, refl}
 use mathlib.Core.List.{List, [], _∷_, _++_, map}
 use lib.ListN.{replicate}
 use Rattle.image.specs.Stalls.{some, each, bits, has}
-use Rattle.image.specs.Layout.{markAt, nameFrom, nameAt, heardAt}
+use Rattle.image.specs.Layout.{isYield, markAt, nameFrom, nameAt, heardAt}
 use Rattle.image.specs.Check.{badCount, badLength, badYields, badDiagonal, badUnheard, badRow, badNames, badOrder, badMarks, checkBody, checked, numberOf}
-use Rattle.image.specs.Encode.{encode, tableOf}
+use Rattle.image.specs.Encode.{nothing, encode, tableOf}
+use Rattle.image.specs.Fresh.{freshImage, freshTable}
 
--- whoever unfolds this unfolds all that a check is computed with
-unfoldable evaluated : Unit {0}
-unfolding some each bits has markAt nameFrom nameAt heardAt badCount badLength badYields badDiagonal badUnheard badRow badNames badOrder badMarks checkBody checked encode tableOf
+-- whoever unfolds this unfolds all that an image is made, read and checked with
+unfoldable pub evaluated : Unit {0}
+unfolding some each bits has isYield markAt nameFrom nameAt heardAt nothing encode tableOf freshImage freshTable badCount badLength badYields badDiagonal badUnheard badRow badNames badOrder badMarks checkBody checked
 evaluated = tt
+
+-- "A fresh image is N, its stall, then zeros."
+fresh-examples : (freshImage 2 1 ≡ 2 ∷ 1 ∷ replicate 16 0) × (freshImage 3 2 ≡ 3 ∷ 2 ∷ replicate 29 0) × (freshTable 8 5 ≡ 8 ∷ 5 ∷ replicate 154 0)
+unfolding evaluated
+fresh-examples = (refl, refl, refl)
 
 number : List ℕ → ℕ
 number s = numberOf (checked s)

@@ -22,6 +22,10 @@ isCount n = leb 2 n && leb n largest
 abbrev pub yieldLimit : ℕ
 yieldLimit = 999
 
+-- what a yield in an image may be
+unfoldable pub isYield : ℕ → Bool
+isYield x = leb x yieldLimit
+
 -- "Labels run from 0 to 4 × N."
 abbrev pub labelLimit : ℕ → ℕ
 labelLimit n = 4 * n

@@ -1,10 +1,10 @@
 -- What a reader has to believe of `image`, in this order.
 pub mod Stalls
 pub mod Layout
-pub mod Frame
+pub mod Encode
 pub mod Fresh
+pub mod Frame
 pub mod Check
 pub mod Row
-pub mod Encode
 pub mod Examples
 pub mod Made

@@ -2,7 +2,7 @@
 use Prim.Native.Nat.{ℕ, _≤_}
 use mathlib.Core.Path.{_≡_}
 use mathlib.Core.Bool.{true}
-use Rattle.image.specs.Layout.{yieldLimit, labelLimit, noYield}
+use Rattle.image.specs.Layout.{isYield, labelLimit, noYield}
 use Rattle.image.specs.Encode.{Table}
 use Rattle.image.specs.declared.Name.{Name}
 use Rattle.image.specs.declared.Name.the-variants.{Never, With}
@@ -15,9 +15,9 @@ NameIn n c (With m) = (1 ≤ m .partner) × (m .partner ≤ n) × (m .partner �
 -- the table t of the head at stall own, of n stalls; a stall that the own row has no name for was "never heard"
 pub record Made (n own : ℕ) (t : Table) : Type 0 where
   -- the current yield: "decilitres, 0 to 999"
-  pub current-in : t .current ≤ yieldLimit
+  pub current-in : isYield (t .current) ≡ true
   -- and no "stall .. yield over 999"
-  pub yields-in : (r : ℕ) → 1 ≤ r → r ≤ n → t .yields r ≤ yieldLimit
+  pub yields-in : (r : ℕ) → 1 ≤ r → r ≤ n → isYield (t .yields r) ≡ true
   -- no "partner above N or equal to the column; label above 4 × N"
   pub names-in : (r c : ℕ) → 1 ≤ r → r ≤ n → 1 ≤ c → c ≤ n → NameIn n c (t .names r c)
   -- no "row r, column r not equal to the own row's column r"

@@ -2,12 +2,12 @@
 ghost use mathlib.Core.Path.{_≡_};
 ghost use Prim.Native.Nat.{_+_, _-_, _*_, _<_, _≤_};
 ghost use mathlib.Core.Bool.{not};
-ghost use lib.Dec.{ltb};
 ghost use lib.ListN.{length};
 ghost use Rattle.image.specs.Stalls.{some};
-ghost use Rattle.image.specs.Layout.{isCount, word, yieldLimit, rowPlace};
+ghost use Rattle.image.specs.Layout.{isCount, isYield, word, rowPlace};
 ghost use Rattle.image.specs.Frame.{Framed};
 ghost use Rattle.image.specs.Check.{badStall, badYields};
+use crate::Head;
 use crate::LARGEST;
 
 pub fn wide(b: u8) -> usize
@@ -24,16 +24,23 @@ pub(crate) fn word_at(image: &[u8], at: usize) -> usize
     wide(image[at]) * 256 + wide(image[at + 1])
 }
 
-// Some of n yields in a row is over the limit.
-pub(crate) fn over_yields(image: &[u8], n: usize, at: usize) -> bool
+// A number that a yield in an image may be.
+fn is_yield(x: usize) -> bool
+    ensures { λ r. ⌜ r ≡ isYield x ⌝ }
+{
+    x <= (Head::YIELD_LIMIT as usize)
+}
+
+// Some of n yields in a row is none.
+fn some_no_yield(image: &[u8], n: usize, at: usize) -> bool
     requires { ⌜ at + n * 2 ≤ length (now image) ⌝ }
-    ensures { λ r. ⌜ r ≡ some n (λ s. ltb yieldLimit (word (now (image .entry)) (at + (s - 1) * 2))) ⌝ }
+    ensures { λ r. ⌜ r ≡ some n (λ s. not (isYield (word (now (image .entry)) (at + (s - 1) * 2)))) ⌝ }
 {
     let mut bad = false;
     let mut place = at;
     let mut s = 1usize;
     while s <= n {
-        bad = (999 < word_at(image, place)) | bad;
+        bad = !is_yield(word_at(image, place)) | bad;
         place += 2;
         s += 1;
     }
@@ -60,7 +67,7 @@ pub(crate) fn bad_yields(image: &[u8], n: u8, own: u8) -> bool
     ensures { λ b. ⌜ b ≡ badYields (now (image .entry)) n ⌝ }
 {
     let m = wide(n);
-    (999 < word_at(image, 2)) | over_yields(image, m, image.len() - (m + m + m))
+    !is_yield(word_at(image, 2)) | some_no_yield(image, m, image.len() - (m + m + m))
 }
 
 // Check 3: a parlour of n heads has no such stall.

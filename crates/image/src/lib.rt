@@ -1,8 +1,7 @@
 // One table as bytes: its forms in the code, its lengths, and its check.
 ghost use mathlib.Core.Path.{_≡_};
-ghost use mathlib.Core.List.{_∷_};
-ghost use lib.ListN.{replicate};
 ghost use Rattle.image.specs.Layout.{labelLimit, lengthOf, nameFrom};
+ghost use Rattle.image.specs.Fresh.{freshTable};
 ghost use Rattle.image.specs.Frame.{Sized};
 ghost use Rattle.image.specs.Check.{checkBody, checked, numberOf};
 
@@ -13,8 +12,11 @@ pub mod rows;
 
 // The most heads that a parlour has, the bytes of a row of names of so many, and of their image.
 pub const LARGEST: u8 = 8;
+
 pub const STALLS: usize = LARGEST as usize;
+
 pub const ROW: usize = 2 * STALLS;
+
 pub const LONGEST: usize = 156;
 
 // The meeting with a partner that has a label.
@@ -64,9 +66,12 @@ impl Head {
     }
 
     pub fn fresh(n: u8, stall: u8) -> Head
-        ensures { λ r. ⌜ r .image ≡ n ∷ stall ∷ replicate 154 0 ⌝ }
+        ensures { λ r. ⌜ r .image ≡ freshTable n stall ⌝ }
     {
         let mut image = [0u8; LONGEST];
+        if bytes::bad_count(n) {
+            return Head { image };
+        }
         image[0] = n;
         image[1] = stall;
         Head { image }

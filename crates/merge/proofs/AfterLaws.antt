@@ -9,7 +9,7 @@ use borrow.Author.Tests.{eq-eqb, eqb-true, ne-eqb, not-true, not-false}
 use lib.Dec.{eqb}
 use lib.ListN.{length}
 use Rattle.image.specs.Stalls.{some, each}
-use Rattle.image.specs.Layout.{largest, yieldLimit}
+use Rattle.image.specs.Layout.{largest, isYield}
 use Rattle.image.specs.Encode.{Table, encode, tableOf}
 use Rattle.image.specs.Made.{NameIn, Made}
 use Rattle.image.specs.Row.{isNever}
@@ -175,10 +175,10 @@ module _ {n p : ℕ} {a : Table} {q : ℕ} {b : Table} (w : Meets n p a q b) whe
       (λ e. latest-in c k l)
       (λ e. supplied r .names-in r c i j k l)
 
-  yields-in : (r : ℕ) → 1 ≤ r → r ≤ n → mergedYields n p a q b r ≤ yieldLimit
+  yields-in : (r : ℕ) → 1 ≤ r → r ≤ n → isYield (mergedYields n p a q b r) ≡ true
   unfolding mergedYields
   yields-in r i j =
-      pick (λ y. y ≤ yieldLimit) (eqb r p) (eqb r q) (a .current) (b .current) (supplier n p a q b r .yields r)
+      pick (λ y. isYield y ≡ true) (eqb r p) (eqb r q) (a .current) (b .current) (supplier n p a q b r .yields r)
       (λ e. w .first .current-in)
       (λ e. w .second .current-in)
       (λ e. supplied r .yields-in r i j)
@@ -231,7 +231,7 @@ module _ {n p : ℕ} {a : Table} {q : ℕ} {b : Table} (w : Meets n p a q b) whe
       (ap not e, between-self n p a q b r (supplied r .marked-self r i j (λ z. h (latest-other n p a q b r e ∙ z)))))
 
   -- the table of either is well made
-  pub merged-made : (own current : ℕ) → met n p a q b own ≡ true → current ≤ yieldLimit → Made n own (merged n p a q b current)
+  pub merged-made : (own current : ℕ) → met n p a q b own ≡ true → isYield current ≡ true → Made n own (merged n p a q b current)
   unfolding merged
   merged-made own current is le =
       let row : (r : ℕ) → mergedNames n p a q b own r ≡ latestName n p a q b r = λ r. own-row n p a q b own r is in
@@ -342,7 +342,7 @@ meeting-accepted {s} {u} {n} {p} {q} w v differ decided =
     )
 
 -- and so it is for their images
-pub again-zero-images : {n p : ℕ} {a : Table} {q : ℕ} {b : Table} → Meets n p a q b → 2 ≤ n → n ≤ largest → (c d : ℕ) → c ≤ yieldLimit → d ≤ yieldLimit
+pub again-zero-images : {n p : ℕ} {a : Table} {q : ℕ} {b : Table} → Meets n p a q b → 2 ≤ n → n ≤ largest → (c d : ℕ) → isYield c ≡ true → isYield d ≡ true
     → (r : ℕ) → 1 ≤ r → r ≤ n → verdict n p (tableOf (encode n p (merged n p a q b c)) n) q (tableOf (encode n q (merged n p a q b d)) n) r ≡ 0
 unfolding tableOf
 again-zero-images {n} {p} {a} {q} {b} w from to c d e f r i j =

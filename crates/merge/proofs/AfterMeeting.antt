@@ -8,7 +8,7 @@ use lib.Dec.{eqb}
 use lib.ListN.{length, getD, take, drop}
 use lib.Seq.{take-suc}
 use Rattle.image.specs.Stalls.{each, bits}
-use Rattle.image.specs.Layout.{rowPlace, namePlace, yieldPlace}
+use Rattle.image.specs.Layout.{rowPlace, namePlace, yieldPlace, largest}
 use Rattle.image.specs.Encode.{Table, nameBytes, wordBytes, encode, tableOf}
 use Rattle.image.specs.declared.Name.{Name}
 use Rattle.image.specs.declared.Name.the-variants.{Never, With}
@@ -33,11 +33,11 @@ take-each (suc n) l f a g =
     take-suc l n 0 a
     ∙ ap₂ (λ x y. x ++ y ∷ []) (take-each n l f (omega arith) (λ r b c. g r b (omega arith))) (ap (λ j. getD l j 0) i ∙ g (suc n) (omega arith) (omega arith))
 
-pub orders-in : (s u : List ℕ) (n p q : ℕ) (out : List ℕ) → n ≤ 8 → Ordered s u n p q n out
+pub orders-in : (s u : List ℕ) (n p q : ℕ) (out : List ℕ) → n ≤ largest → Ordered s u n p q n out
     → take n out ≡ each n (λ r. bits n (mergedOrder n p (tableOf s n) q (tableOf u n) r) ∷ [])
 orders-in s u n p q out l w = take-each n out (λ r. bits n (mergedOrder n p (tableOf s n) q (tableOf u n) r)) (omega (arith, w .long)) (w .right)
 
-pub verdicts-in : (s u : List ℕ) (n p q : ℕ) (out : List ℕ) → n ≤ 8 → Judged s u n p q n out → take n out ≡ verdictBytes n p (tableOf s n) q (tableOf u n)
+pub verdicts-in : (s u : List ℕ) (n p q : ℕ) (out : List ℕ) → n ≤ largest → Judged s u n p q n out → take n out ≡ verdictBytes n p (tableOf s n) q (tableOf u n)
 unfolding verdictBytes
 verdicts-in s u n p q out l w = take-each n out (verdict n p (tableOf s n) q (tableOf u n)) (omega (arith, w .long)) (w .right)
 

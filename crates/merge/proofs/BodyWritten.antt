@@ -8,7 +8,7 @@ use lib.Dec.{eqb}
 use lib.ListN.{length, getD, take, drop, replicate, length-append, length-drop}
 use lib.Seq.{length-take-le, take-at, drop-append-add, drop-drop, drop-length}
 use Rattle.image.specs.Stalls.{each}
-use Rattle.image.specs.Layout.{rowPlace, yieldPlace, imageLength, ordersPlace, yieldsPlace}
+use Rattle.image.specs.Layout.{rowPlace, yieldPlace, imageLength, ordersPlace, yieldsPlace, longestRow}
 use Rattle.image.specs.Frame.{Sized, Framed}
 use Rattle.image.proofs.Has.{length-each}
 use Rattle.image.proofs.Places.{row-within}
@@ -18,7 +18,7 @@ use Rattle.merge.proofs.Written.{length-each-to}
 
 -- what stands before the zeros
 pub take-padded : (n : ℕ) (l : List ℕ) → length l ≡ n * 2 → take (n * 2) (padded n l) ≡ l
-take-padded n l e = take-at l (replicate (16 - n * 2) 0) (n * 2) e
+take-padded n l e = take-at l (replicate (longestRow - n * 2) 0) (n * 2) e
 
 module _ (s u : List ℕ) (n p q k : ℕ) (v : ℕ → ℕ) where
   pub latest-wide : (c : ℕ) → length (latestPair s u n p q k v c) ≡ 2
@@ -45,10 +45,10 @@ module _ (s u : List ℕ) (n p q k : ℕ) (v : ℕ → ℕ) where
   -- rows and yields by value
   module _ (a : Framed s n p) (b : Framed u n q) (rows : List (List ℕ)) (yields : List ℕ)
       (rows-are : (r : ℕ) → 1 ≤ r → r ≤ n → getD rows (r - 1) [] ≡ padded n (bodyRow s u n p q k v r)) (yields-are : yields ≡ padded n (each n (bodyYield s u n p q v))) where
-    pub rows-long : (r : ℕ) → 1 ≤ r → r ≤ n → length (getD rows (r - 1) []) ≡ 16
+    pub rows-long : (r : ℕ) → 1 ≤ r → r ≤ n → length (getD rows (r - 1) []) ≡ longestRow
     rows-long r i j = ap length (rows-are r i j) ∙ length-padded n (bodyRow s u n p q k v r) (a .n-to) (row-wide a b r i j)
 
-    pub yields-long : length yields ≡ 16
+    pub yields-long : length yields ≡ longestRow
     yields-long = ap length yields-are ∙ length-padded n (each n (bodyYield s u n p q v)) (a .n-to) (length-each 2 (bodyYield s u n p q v) yield-wide n)
 
     pub rows-in : each n (rowIn rows n) ≡ each n (bodyRow s u n p q k v)
@@ -69,7 +69,7 @@ paste-behind front rest l x k w e g =
 
 -- rows, yields and order bytes by value, written into d one after the other: x has the rows, y the yields too, z all
 module _ (d x y : List ℕ) (n : ℕ) (rows : List (List ℕ)) (yields : List ℕ) (sized : Sized d n)
-    (long : (r : ℕ) → 1 ≤ r → r ≤ n → length (getD rows (r - 1) []) ≡ 16) (yields-long : length yields ≡ 16)
+    (long : (r : ℕ) → 1 ≤ r → r ≤ n → length (getD rows (r - 1) []) ≡ longestRow) (yields-long : length yields ≡ longestRow)
     (x-is : x ≡ take 4 d ++ each n (rowIn rows n) ++ drop (yieldsPlace n) d)
     (y-is : y ≡ take (yieldsPlace n) x ++ take (n * 2) yields ++ drop (ordersPlace n) x) where
   abbrev to-yields : List ℕ

@@ -7,6 +7,7 @@ use native.Mathlib.Nat.{zero-add}
 use native.Mathlib.Numerals.{add-one}
 use lib.ListN.{length, getD, take, drop, set, replicate, length-drop}
 use lib.Seq.{paste, paste-suc, getD-drop}
+use Rattle.image.specs.Layout.{longestRow}
 use Rattle.merge.specs.Body.{padded}
 
 -- one byte more at a place
@@ -24,6 +25,6 @@ drop-zeros zero m = let e : m ≡ m - 0 = omega arith in ap (λ j. replicate {A 
 drop-zeros (suc k) zero = let e : 0 ≡ 0 - suc k = omega arith in ap (λ j. replicate {A = ℕ} j 0) e
 drop-zeros (suc k) (suc m) = let e : m - k ≡ suc m - suc k = omega arith in drop-zeros k m ∙ ap (λ j. replicate {A = ℕ} j 0) e
 
-pub front-end : (s l : List ℕ) (at i n : ℕ) → i ≡ n * 2 → l ≡ take i (drop at s) ++ drop i (replicate 16 0) → l ≡ padded n (take (n * 2) (drop at s))
+pub front-end : (s l : List ℕ) (at i n : ℕ) → i ≡ n * 2 → l ≡ take i (drop at s) ++ drop i (replicate longestRow 0) → l ≡ padded n (take (n * 2) (drop at s))
 front-end s l at i n e g =
-    g ∙ ap (λ k. take k (drop at s) ++ drop k (replicate 16 0)) e ∙ ap (λ r. take (n * 2) (drop at s) ++ r) (drop-zeros (n * 2) 16)
+    g ∙ ap (λ k. take k (drop at s) ++ drop k (replicate longestRow 0)) e ∙ ap (λ r. take (n * 2) (drop at s) ++ r) (drop-zeros (n * 2) longestRow)

@@ -3,6 +3,7 @@ use Prim.Native.Nat.{ℕ, _-_, _*_, _≤_}
 use mathlib.Core.Path.{_≡_, ap, _∙_}
 use mathlib.Core.List.{List, [], _++_}
 use lib.ListN.{length, getD, take}
+use Rattle.image.specs.Layout.{largest, longestRow}
 use Rattle.image.specs.Stalls.{each}
 use Rattle.image.specs.Frame.{Sized, Framed}
 use Rattle.merge.specs.Orders.{Ordered}
@@ -13,8 +14,8 @@ use Rattle.merge.proofs.AfterMeeting.{orders-in}
 module _ (s u : List ℕ) (n p q k : ℕ) (v : ℕ → ℕ) (a : Framed s n p) (b : Framed u n q) (rows : List (List ℕ)) (yields orders : List ℕ)
     (rows-are : (r : ℕ) → 1 ≤ r → r ≤ n → getD rows (r - 1) [] ≡ padded n (bodyRow s u n p q k v r)) (yields-are : yields ≡ padded n (each n (bodyYield s u n p q v)))
     (orders-are : Ordered s u n p q n orders) (m : ℕ) (m-is : m ≡ n) where
-  pub may-write : (d : List ℕ) (own : ℕ) → Framed d n own → length rows ≡ 8
-      → (Sized d m × (length rows ≡ 8) × ((r : ℕ) → 1 ≤ r → r ≤ m → length (getD rows (r - 1) []) ≡ 16)) × ((length yields ≡ 16) × (length orders ≡ 16))
+  pub may-write : (d : List ℕ) (own : ℕ) → Framed d n own → length rows ≡ largest
+      → (Sized d m × (length rows ≡ largest) × ((r : ℕ) → 1 ≤ r → r ≤ m → length (getD rows (r - 1) []) ≡ longestRow)) × ((length yields ≡ longestRow) × (length orders ≡ longestRow))
   may-write d own f e =
       rw m-is (
         (record { n-from = f .n-from; n-to = f .n-to; long = f .long }, e, rows-long s u n p q k v a b rows yields rows-are yields-are),

@@ -25,7 +25,7 @@ use Rattle.merge.proofs.Marks.{order-byte, met-byte, heard-is}
 -- a set of 1 to n fits a byte
 fits-byte : (n : ℕ) (f : ℕ → Bool) → n ≤ largest → bits n f % 256 ≡ bits n f
 fits-byte n f l =
-    let a : bits n f < 256 = omega (arith, bits-lt n f, pow-mono {i = n} {j = 8} l) in
+    let a : bits n f < 256 = omega (arith, bits-lt n f, pow-mono {i = n} {j = largest} l) in
     omega arith
 
 module _ (s u : List ℕ) (n p q : ℕ) (f : Framed s n p) (g : Framed u n q) (mine theirs : List Entry) (e : mine ≡ ownRow s n p) (i : theirs ≡ ownRow u n q)

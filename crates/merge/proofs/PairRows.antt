@@ -8,6 +8,7 @@ use native.Mathlib.Numerals.{add-one}
 use lib.Dec.{eqb}
 use lib.ListN.{length, getD, drop, set, replicate, length-append, length-replicate}
 use lib.Seq.{sets-eq, take-at, drop-append-add}
+use Rattle.image.specs.Layout.{largest, longestRow}
 use Rattle.image.specs.Stalls.{each}
 use Rattle.image.proofs.Has.{length-each}
 use Rattle.merge.specs.declared.pairs.Pair.{Pair}
@@ -28,20 +29,20 @@ length-choice m x y true a b = a
 length-choice m x y false a b = b
 
 -- a row of n pairs is 16 bytes
-pub length-padded : (n : ℕ) (l : List ℕ) → n ≤ 8 → length l ≡ n * 2 → length (padded n l) ≡ 16
-length-padded n l a e = length-append l (replicate (16 - n * 2) 0) ∙ omega (arith, length-replicate {A = ℕ} (16 - n * 2) 0)
+pub length-padded : (n : ℕ) (l : List ℕ) → n ≤ largest → length l ≡ n * 2 → length (padded n l) ≡ longestRow
+length-padded n l a e = length-append l (replicate (longestRow - n * 2) 0) ∙ omega (arith, length-replicate {A = ℕ} (longestRow - n * 2) 0)
 
 module _ (f : ℕ → List ℕ) (wide : (r : ℕ) → length (f r) ≡ 2) where
   -- the zeros behind
-  rest : (k : ℕ) → drop (k * 2 + 2) (padded k (each k f)) ≡ replicate (16 - suc k * 2) 0
+  rest : (k : ℕ) → drop (k * 2 + 2) (padded k (each k f)) ≡ replicate (longestRow - suc k * 2) 0
   rest k =
       let a : k * 2 + 2 ≡ length (each k f) + 2 = omega (arith, length-each 2 f wide k) in
-      let b : 16 - k * 2 - 2 ≡ 16 - suc k * 2 = omega arith in
-      ap (λ j. drop j (padded k (each k f))) a ∙ drop-append-add (each k f) (replicate (16 - k * 2) 0) 2 ∙ drop-zeros 2 (16 - k * 2)
+      let b : longestRow - k * 2 - 2 ≡ longestRow - suc k * 2 = omega arith in
+      ap (λ j. drop j (padded k (each k f))) a ∙ drop-append-add (each k f) (replicate (longestRow - k * 2) 0) 2 ∙ drop-zeros 2 (longestRow - k * 2)
       ∙ ap (λ j. replicate {A = ℕ} j 0) b
 
   -- one pair more
-  pub pairs-next : (row : List ℕ) (k x y : ℕ) → suc k ≤ 8 → row ≡ padded k (each k f) → x ∷ y ∷ [] ≡ f (suc k)
+  pub pairs-next : (row : List ℕ) (k x y : ℕ) → suc k ≤ largest → row ≡ padded k (each k f) → x ∷ y ∷ [] ≡ f (suc k)
       → set (set row (k + k) x) (k + k + 1) y ≡ padded (k + 1) (each (k + 1) f)
   unfolding each
   pairs-next row k x y l e g =
@@ -49,8 +50,8 @@ module _ (f : ℕ → List ℕ) (wide : (r : ℕ) → length (f r) ≡ 2) where
       let long = length-padded k (each k f) (omega arith) (length-each 2 f wide k) in
       rw (add-one (k + k), i, e, add-one k)
       (sets-eq (x ∷ y ∷ []) (padded k (each k f)) (k * 2) (omega (arith, long))
-      ∙ ap₂ (λ p q. p ++ (x ∷ y ∷ []) ++ q) (take-at (each k f) (replicate (16 - k * 2) 0) (k * 2) (length-each 2 f wide k)) (rest k)
-      ∙ ap (λ r. each k f ++ r ++ replicate (16 - suc k * 2) 0) g)
+      ∙ ap₂ (λ p q. p ++ (x ∷ y ∷ []) ++ q) (take-at (each k f) (replicate (longestRow - k * 2) 0) (k * 2) (length-each 2 f wide k)) (rest k)
+      ∙ ap (λ r. each k f ++ r ++ replicate (longestRow - suc k * 2) 0) g)
 
 module _ (s : List ℕ) (a : Side) (u : List ℕ) (b : Side) (v : ℕ → ℕ) where
   pub mixed-wide : (r : ℕ) → length (mixedPair s a u b v r) ≡ 2

@@ -7,7 +7,7 @@ use native.Mathlib.Nat.{mul-le-mul-right}
 use native.Mathlib.Numerals.{add-one}
 use lib.ListN.{length, getD, take, drop, length-append, take-append-drop}
 use lib.Seq.{paste, length-paste, length-take-le, take-at, drop-append-add, drop-drop}
-use Rattle.image.specs.Layout.{ordersPlace, yieldsPlace}
+use Rattle.image.specs.Layout.{ordersPlace, yieldsPlace, longestRow}
 use Rattle.image.specs.Stalls.{each}
 use Rattle.image.specs.Frame.{Sized}
 use Rattle.merge.specs.Body.{rowIn}
@@ -56,9 +56,9 @@ unfolding blocks
 blocks-end d l b w f k n a c e = let j : k ≡ n = omega arith in e ∙ ap (λ m. take b d ++ each m f ++ drop (b + m * w) d) j
 
 -- rows by value of 16 bytes each, written one after the other
-module _ (d : List ℕ) (n : ℕ) (rows : List (List ℕ)) (sized : Sized d n) (long : (r : ℕ) → 1 ≤ r → r ≤ n → length (getD rows (r - 1) []) ≡ 16)
+module _ (d : List ℕ) (n : ℕ) (rows : List (List ℕ)) (sized : Sized d n) (long : (r : ℕ) → 1 ≤ r → r ≤ n → length (getD rows (r - 1) []) ≡ longestRow)
     (c at : ℕ) (l : c < n) (stands : at ≡ 4 + c * (n + n)) where
-  pub row-long : length (getD rows c []) ≡ 16
+  pub row-long : length (getD rows c []) ≡ longestRow
   row-long = let e : suc c - 1 ≡ c = omega arith in rw e at (long (suc c) (omega arith) l)
 
   pub row-fits : at + (n + n) ≤ length d

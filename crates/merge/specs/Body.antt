@@ -7,7 +7,7 @@ use lib.Dec.{eqb}
 use lib.ListN.{getD, take, drop, replicate}
 use Rattle.image.specs.Stalls.{each, bits}
 use Rattle.image.specs.Encode.{tableOf}
-use Rattle.image.specs.Layout.{rowPlace, yieldPlace}
+use Rattle.image.specs.Layout.{rowPlace, yieldPlace, longestRow}
 use Rattle.merge.specs.Merged.{mergedOrder}
 use Rattle.merge.specs.declared.pairs.Pair.{Pair}
 use Rattle.merge.specs.declared.pairs.Side.{Side}
@@ -42,7 +42,7 @@ bodyYield s u n p q v r =
 
 -- two bytes a stall for n stalls, with zeros behind them to 16 bytes
 abbrev pub padded : ℕ → List ℕ → List ℕ
-padded n l = l ++ replicate (16 - n * 2) 0
+padded n l = l ++ replicate (longestRow - n * 2) 0
 
 -- the bytes of row r in an array of rows by value
 abbrev pub rowIn : List (List ℕ) → ℕ → ℕ → List ℕ

@@ -4,18 +4,18 @@ use mathlib.Core.Path.{_≡_, refl}
 use mathlib.Core.Bool.{true}
 use mathlib.Core.List.{List, [], _∷_, _++_}
 use lib.ListN.{getD, set, replicate}
-use Rattle.image.specs.Stalls.{some, each, bits, has}
-use Rattle.image.specs.Layout.{markAt, nameFrom, nameAt}
 use Rattle.image.specs.Fresh.{freshImage}
 use Rattle.image.specs.Encode.{encode, tableOf}
+use Rattle.image.specs.Examples.{evaluated as image-evaluated}
 use Rattle.merge.specs.Known.{common, known}
 use Rattle.merge.specs.Verdict.{verdict, undecided}
 use Rattle.merge.specs.Label.{labelUsed, lowestFrom, newLabel}
 use Rattle.merge.specs.Merged.{latestName, mergedNames, mergedYields, mergedOrder, merged, verdictBytes}
+use Rattle.merge.specs.Call.{metTogether, metGood, metChecked, meetingCall}
 
 -- whoever unfolds this unfolds all that a meeting is computed with
-unfoldable evaluated : Unit {0}
-unfolding some each bits has markAt nameFrom nameAt freshImage encode tableOf common known verdict undecided labelUsed lowestFrom newLabel latestName mergedNames mergedYields mergedOrder merged verdictBytes
+unfoldable pub evaluated : Unit {0}
+unfolding image-evaluated common known verdict undecided labelUsed lowestFrom newLabel latestName mergedNames mergedYields mergedOrder merged verdictBytes metTogether metGood metChecked meetingCall
 evaluated = tt
 
 -- the images of a parlour, stall 1 first

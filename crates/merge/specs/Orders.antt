@@ -6,6 +6,7 @@ use mathlib.Core.Bool.{Bool, _&&_, not, cond}
 use lib.Bits.{bitAnd, bitOr}
 use mathlib.Core.List.{List}
 use lib.Dec.{eqb}
+use Rattle.image.specs.Layout.{longestRow}
 use Rattle.image.specs.Stalls.{bits}
 use Rattle.image.specs.Encode.{tableOf}
 use Rattle.image.specs.Row.{isNever}
@@ -33,4 +34,4 @@ heardFrom v x y = cond (eqb v 2) (not (isNever y)) (not (isNever x))
 
 -- the order bytes of the first m stalls after images s and u met
 abbrev pub Ordered : List ℕ → List ℕ → ℕ → ℕ → ℕ → ℕ → List ℕ → Type 0
-Ordered s u n p q m = ByStall 0 16 m (λ r. bits n (mergedOrder n p (tableOf s n) q (tableOf u n) r))
+Ordered s u n p q m = ByStall 0 longestRow m (λ r. bits n (mergedOrder n p (tableOf s n) q (tableOf u n) r))

@@ -23,7 +23,14 @@ use image::STALLS;
 use image::bytes::wide;
 
 // Both images after the meeting, and its label. All is read before a byte is written.
-fn write_meeting(first: &mut [u8], second: &mut [u8], n: u8, p: u8, q: u8, verdicts: [u8; STALLS]) -> u8
+fn write_meeting(
+    first: &mut [u8],
+    second: &mut [u8],
+    n: u8,
+    p: u8,
+    q: u8,
+    verdicts: [u8; STALLS],
+) -> u8
     requires { ⌜ Framed (now first) n p × Framed (now second) n q × Judged (now first) (now second) n p q n verdicts ⌝ }
     ensures { λ r.
         ⌜ (r ≡ newLabel n p (tableOf (now (first .entry)) n) q (tableOf (now (second .entry)) n))

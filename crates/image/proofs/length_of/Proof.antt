@@ -7,7 +7,7 @@ use borrow.Author.Tests.{le-leb, lt-leb}
 use borrow.Author.Needs.{needs}
 use lib.ListN.{getD}
 use Rattle.image.specs.Stalls.{some}
-use Rattle.image.specs.Layout.{lengthOf}
+use Rattle.image.specs.Layout.{lengthOf, largest}
 use Rattle.image.proofs.Tables.{table-rule}
 use Rattle.image.proofs.length_of.Statement.{statement}
 use Rattle.image.proofs.length_of.Tie as tie
@@ -19,8 +19,8 @@ rule : (k : ℕ) → k < 9 → getD lengths k 0 ≡ lengthOf k
 unfolding some
 rule = table-rule 9 (λ k. getD lengths k 0) lengthOf refl
 
-beyond : (n : ℕ) → 8 < n → lengthOf n ≡ 0
-beyond n l = rw (le-leb 2 n (omega arith), lt-leb n 8 l)
+beyond : (n : ℕ) → largest < n → lengthOf n ≡ 0
+beyond n l = rw (le-leb 2 n (omega arith), lt-leb n largest l)
 
 returns : tie.Need-returns
 returns c = rule (c .before .args .n) (search needs)

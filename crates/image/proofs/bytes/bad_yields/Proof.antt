@@ -1,23 +1,22 @@
 -- Check 4.
 use Prim.Native.Nat.{ℕ, _+_, _-_, _*_}
-use mathlib.Core.Path.{_≡_}
-use mathlib.Core.Bool.{Bool, _||_}
+use mathlib.Core.Path.{_≡_, ap, _∙_}
+use mathlib.Core.Bool.{Bool, not, _||_}
 use mathlib.Core.List.{List}
 use native.Mathlib.Omega.{arith}
 use borrow.Author.Needs.{needs}
-use lib.Dec.{ltb}
 use lib.ListN.{length}
 use Rattle.image.specs.Stalls.{some}
-use Rattle.image.specs.Layout.{word, yieldLimit, yieldsPlace}
+use Rattle.image.specs.Layout.{word, isYield, yieldsPlace}
 use Rattle.image.specs.Frame.{Framed}
 use Rattle.image.specs.Check.{badYields}
 use Rattle.image.proofs.bytes.bad_yields.Statement.{statement}
 use Rattle.image.proofs.bytes.bad_yields.Tie as tie
 
-yields-test : (s : List ℕ) (n own m x : ℕ) (over : Bool) → Framed s n own → m ≡ n → x ≡ word s 2
-    → over ≡ some m (λ r. ltb yieldLimit (word s (length s - (m + m + m) + (r - 1) * 2))) → (ltb 999 x || over) ≡ badYields s n
+yields-test : (s : List ℕ) (n own m : ℕ) (is over : Bool) → Framed s n own → m ≡ n → is ≡ isYield (word s 2)
+    → over ≡ some m (λ r. not (isYield (word s (length s - (m + m + m) + (r - 1) * 2)))) → (not is || over) ≡ badYields s n
 unfolding badYields
-yields-test s n own m x over f e i d =
+yields-test s n own m is over f e i d =
     let a : length s - (n + n + n) ≡ yieldsPlace n = omega (arith, f .long) in
     rw (i, d, e, a)
 
@@ -27,8 +26,9 @@ bad-yields-spec =
     (tie.spec
     (λ c κs. search needs)
     (λ c κs. search needs)
+    (λ c κs. search needs)
     (λ c. search needs)
     (λ c. search needs)
     (λ c. search needs)
     (λ c κs. search needs)
-    (λ c. yields-test _ _ _ _ _ _ (c .before .before .before .before .pre) (c .before .before .wide .ensures .0) (c .before .word-at .ensures) (c .over-yields .ensures)))
+    (λ c. yields-test _ _ _ _ _ _ (c .before .before .before .before .before .pre) (c .before .before .before .wide .ensures .0) (c .before .is-yield .ensures ∙ ap isYield (c .before .before .word-at .ensures)) (c .some-no-yield .ensures)))

@@ -7,7 +7,7 @@ use mathlib.Core.List.{List}
 use lib.Dec.{eqb}
 use lib.ListN.{getD}
 use Rattle.image.specs.Stalls.{bits}
-use Rattle.image.specs.Layout.{rowPlace, orderPlace, heardAt}
+use Rattle.image.specs.Layout.{rowPlace, orderPlace, heardAt, largest}
 use Rattle.image.specs.Check.{badOrder, badMarks}
 use Rattle.image.proofs.Search.{Looked, looked-start, looked-next, looked-end}
 use Rattle.image.proofs.Gather.{Bit, bit-start, bit-next, bit-le}
@@ -42,7 +42,7 @@ bad-orders-spec =
     (λ c κs. tt)
     (λ c. omega (arith, row-within (c .before .before .before .before .before .before .before .pre .0 .own-from) (c .before .before .before .before .before .before .before .pre .0 .own-to)))
     (λ c κs. tt)
-    (λ c. omega (arith, bit-le 8 (c .before .before .before .before .before .loop .inv .1) (omega arith)))
+    (λ c. omega (arith, bit-le largest (c .before .before .before .before .before .loop .inv .1) (omega arith)))
     (λ c. omega arith)
     (λ c. omega (arith, row-within (c .before .before .before .before .before .before .before .before .pre .0 .own-from) (c .before .before .before .before .before .before .before .before .pre .0 .own-to)))
     (λ c. omega arith)

@@ -5,6 +5,7 @@ use mathlib.Core.Bool.{not}
 use native.Mathlib.Omega.{arith}
 use lib.Dec.{eqb}
 use lib.ListN.{getD}
+use Rattle.image.specs.Layout.{largest}
 use Rattle.image.proofs.Gather.{Bit, bit-start, bit-next, bit-le, Gathered, gather-start, gather-next, gather-end, gathered-lt}
 use Rattle.image.proofs.marks.heard_set.Statement.{statement}
 use Rattle.image.proofs.marks.heard_set.Tie as tie
@@ -25,8 +26,8 @@ heard-set-spec =
     (λ c. (omega arith, omega arith, bit-start, gather-start _))
     (λ c. omega arith)
     (λ c κs. tt)
-    (λ c. let i = c .before .before .before .loop .inv in omega (arith, gathered-lt (i .3) (i .2), bit-le 8 (i .2) (omega arith), c .pick .ensures))
-    (λ c. omega (arith, bit-le 8 (c .before .before .before .loop .inv .2) (omega arith)))
+    (λ c. let i = c .before .before .before .loop .inv in omega (arith, gathered-lt (i .3) (i .2), bit-le largest (i .2) (omega arith), c .pick .ensures))
+    (λ c. omega (arith, bit-le largest (c .before .before .before .loop .inv .2) (omega arith)))
     (λ c. omega arith)
     (λ c. omega arith)
     (λ c. omega arith)

@@ -7,31 +7,31 @@ use native.Mathlib.Nat.{mul-le-mul-left}
 use borrow.Author.Needs.{needs}
 use borrow.Author.Tests.{le-leb, lt-leb}
 use lib.ListN.{length, replicate}
-use Rattle.image.specs.Layout.{largest, rowPlace}
+use Rattle.image.specs.Layout.{largest, rowPlace, longestRow}
 use Rattle.image.specs.Row.{tabulate, neverAt, entryAt, ownRow}
 use Rattle.image.proofs.rows.own_row.Statement.{statement}
 use Rattle.image.proofs.rows.own_row.Tie as tie
 
-empty : replicate 8 (neverAt 0) ≡ tabulate largest neverAt
+empty : replicate largest (neverAt 0) ≡ tabulate largest neverAt
 unfolding tabulate
 empty = refl
 
 module _ (s : List ℕ) (n own m at : ℕ) (e : m ≡ n) (i : at ≡ rowPlace n own) where
-  too-many : 8 < m → replicate 8 (neverAt 0) ≡ ownRow s n own
+  too-many : largest < m → replicate largest (neverAt 0) ≡ ownRow s n own
   unfolding ownRow
   too-many l = rw (lt-leb n largest (omega arith)) empty
 
-  too-short : m ≤ 8 → length s < at + m * 2 → replicate 8 (neverAt 0) ≡ ownRow s n own
+  too-short : m ≤ largest → length s < at + m * 2 → replicate largest (neverAt 0) ≡ ownRow s n own
   unfolding ownRow
   too-short a l = rw (le-leb n largest (omega arith), lt-leb (rowPlace n own + n * 2) (length s) (omega arith)) empty
 
-  found : m ≤ 8 → at + m * 2 ≤ length s → tabulate largest (entryAt s m at) ≡ ownRow s n own
+  found : m ≤ largest → at + m * 2 ≤ length s → tabulate largest (entryAt s m at) ≡ ownRow s n own
   unfolding ownRow
   found a l = rw (le-leb n largest (omega arith), le-leb (rowPlace n own + n * 2) (length s) (omega arith), e, i)
 
 -- a row starts low enough
-low : (n own m at : ℕ) → own < 256 → m ≤ 8 → m ≡ n → at ≡ rowPlace n own → at ≤ 4084
-low n own m at l a e i = omega (arith, mul-le-mul-left {m = n + n} {n = 16} (own - 1) (omega arith))
+low : (n own m at : ℕ) → own < 256 → m ≤ largest → m ≡ n → at ≡ rowPlace n own → at ≤ 4 + 255 * longestRow
+low n own m at l a e i = omega (arith, mul-le-mul-left {m = n + n} {n = longestRow} (own - 1) (omega arith))
 
 pub own-row-spec : {M : Type 1} → statement M
 own-row-spec =

@@ -38,7 +38,7 @@ row-at-spec =
     (tie.spec
     Inv-loop
     μ-loop
-    (λ c. (omega arith, omega arith, filled-start 8 _))
+    (λ c. (omega arith, omega arith, filled-start largest _))
     (λ c. omega arith)
     (λ c. omega arith)
     (λ c. omega arith)

@@ -1,6 +1,7 @@
 -- The columns of an own row whose meetings the other own row names too.
 use Prim.Native.Nat.{_+_, _-_, _≤_}
 use native.Mathlib.Omega.{arith}
+use Rattle.image.specs.Layout.{largest}
 use Rattle.image.proofs.Gather.{Bit, bit-start, bit-next, bit-le, Gathered, gather-start, gather-next, gather-end, gathered-lt}
 use Rattle.merge.specs.Known.{common}
 use Rattle.merge.specs.Rows.{nameIn}
@@ -22,8 +23,8 @@ common-set-spec =
     (λ c. (omega arith, bit-start, gather-start _))
     (λ c κs. (c .before .before .pre .0, c .before .loop .inv .1 .from, c .loop-test .taken, c .before .before .pre .1, c .before .before .pre .2))
     (λ c κs. tt)
-    (λ c. let i = c .before .before .before .loop .inv in omega (arith, gathered-lt (i .2) (i .1), bit-le 8 (i .1) (omega arith), c .pick .ensures))
-    (λ c. omega (arith, bit-le 8 (c .before .before .before .loop .inv .1) (omega arith)))
+    (λ c. let i = c .before .before .before .loop .inv in omega (arith, gathered-lt (i .2) (i .1), bit-le largest (i .1) (omega arith), c .pick .ensures))
+    (λ c. omega (arith, bit-le largest (c .before .before .before .loop .inv .1) (omega arith)))
     (λ c. omega arith)
     (λ c. omega arith)
     (λ c. let i = c .before .before .before .loop .inv in (omega arith, bit-next (i .1), gather-next (i .2) (i .1) (c .before .is-common .result) (c .pick .ensures .0) (c .before .is-common .ensures)))

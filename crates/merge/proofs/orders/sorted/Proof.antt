@@ -5,6 +5,7 @@ use mathlib.Core.Bool.{_&&_, not}
 use native.Mathlib.Omega.{arith}
 use lib.Dec.{eqb}
 use lib.ListN.{getD}
+use Rattle.image.specs.Layout.{largest}
 use Rattle.image.proofs.Gather.{Bit, bit-start, bit-next, bit-le, Gathered, gather-start, gather-next, gather-end, gathered-lt}
 use Rattle.merge.specs.Judged.{verdictIn}
 use Rattle.merge.specs.Merged.{isMet}
@@ -32,14 +33,14 @@ sorted-spec =
     (λ c. omega arith)
     (λ c. omega arith)
     (λ c κs. tt)
-    (λ c. let i = c .before .before .before .loop .inv in omega (arith, gathered-lt (i .2) (i .1), bit-le 8 (i .1) (omega arith), c .pick .ensures))
+    (λ c. let i = c .before .before .before .loop .inv in omega (arith, gathered-lt (i .2) (i .1), bit-le largest (i .1) (omega arith), c .pick .ensures))
     (λ c κs. tt)
-    (λ c. let i = c .before .before .before .before .loop .inv in omega (arith, gathered-lt (i .3) (i .1), bit-le 8 (i .1) (omega arith), c .pick2 .ensures))
+    (λ c. let i = c .before .before .before .before .loop .inv in omega (arith, gathered-lt (i .3) (i .1), bit-le largest (i .1) (omega arith), c .pick2 .ensures))
     (λ c κs. tt)
-    (λ c. let i = c .before .before .before .before .before .loop .inv in omega (arith, gathered-lt (i .4) (i .1), bit-le 8 (i .1) (omega arith), c .pick3 .ensures))
+    (λ c. let i = c .before .before .before .before .before .loop .inv in omega (arith, gathered-lt (i .4) (i .1), bit-le largest (i .1) (omega arith), c .pick3 .ensures))
     (λ c κs. tt)
-    (λ c. let i = c .before .before .before .before .before .before .loop .inv in omega (arith, gathered-lt (i .5) (i .1), bit-le 8 (i .1) (omega arith), c .pick4 .ensures))
-    (λ c. omega (arith, bit-le 8 (c .before .before .before .before .before .before .loop .inv .1) (omega arith)))
+    (λ c. let i = c .before .before .before .before .before .before .loop .inv in omega (arith, gathered-lt (i .5) (i .1), bit-le largest (i .1) (omega arith), c .pick4 .ensures))
+    (λ c. omega (arith, bit-le largest (c .before .before .before .before .before .before .loop .inv .1) (omega arith)))
     (λ c. omega arith)
     (λ c. omega arith)
     (λ c.

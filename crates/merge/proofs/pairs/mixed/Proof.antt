@@ -4,6 +4,7 @@ use mathlib.Core.Path.{_≡_, refl, ap, _∙_}
 use mathlib.Core.List.{List}
 use native.Mathlib.Omega.{arith}
 use lib.ListN.{length, length-set}
+use Rattle.image.specs.Layout.{longestRow}
 use Rattle.image.specs.Stalls.{each}
 use Rattle.merge.specs.Judged.{verdictIn}
 use Rattle.merge.specs.Body.{padded, mixedPair}
@@ -12,7 +13,7 @@ use Rattle.merge.proofs.pairs.mixed.Statement.{statement}
 use Rattle.merge.proofs.pairs.mixed.Tie as tie
 
 abbrev Inv-loop : tie.InvT-loop
-Inv-loop first a second b n verdicts row₀ c₀ row c = (c ≤ n) × (length row ≡ 16) × (row ≡ padded c (each c (mixedPair first a second b (verdictIn verdicts))))
+Inv-loop first a second b n verdicts row₀ c₀ row c = (c ≤ n) × (length row ≡ longestRow) × (row ≡ padded c (each c (mixedPair first a second b (verdictIn verdicts))))
 
 abbrev μ-loop : tie.MeasureT-loop
 μ-loop first a second b n verdicts row₀ c₀ row c = n - c

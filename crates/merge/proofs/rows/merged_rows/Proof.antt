@@ -3,6 +3,7 @@ use Prim.Native.Nat.{_+_, _-_, _*_, _≤_}
 use mathlib.Core.Path.{_≡_, refl}
 use mathlib.Core.List.{[]}
 use native.Mathlib.Omega.{arith}
+use Rattle.image.specs.Layout.{largest}
 use Rattle.merge.specs.Judged.{verdictIn}
 use Rattle.merge.specs.Body.{padded, bodyRow}
 use Rattle.merge.specs.ByStall.{ByStall}
@@ -13,7 +14,7 @@ use Rattle.merge.proofs.rows.merged_rows.Tie as tie
 
 abbrev Inv-loop : tie.InvT-loop
 Inv-loop first second n p q k verdicts m x y latest rows₀ at₀ c₀ rows at c =
-    (c ≤ n) × (at ≡ 4 + c * (n + n)) × ByStall [] 8 c (λ r. padded n (bodyRow first second n p q k (verdictIn verdicts) r)) rows
+    (c ≤ n) × (at ≡ 4 + c * (n + n)) × ByStall [] largest c (λ r. padded n (bodyRow first second n p q k (verdictIn verdicts) r)) rows
 
 abbrev μ-loop : tie.MeasureT-loop
 μ-loop first second n p q k verdicts m x y latest rows₀ at₀ c₀ rows at c = n - c
