@@ -8,3 +8,4 @@ pub mod Row
 pub mod Encode
 pub mod Examples
 pub mod Made
+pub mod Theory

@@ -18,12 +18,12 @@ unfoldable called : Unit {0}
 unfolding some each bits has markAt nameFrom nameAt heardAt freshImage encode tableOf badCount badLength badYields badDiagonal badUnheard badRow badNames badOrder badMarks checkBody checked common known verdict undecided labelUsed lowestFrom newLabel latestName mergedNames mergedYields mergedOrder merged verdictBytes metTogether metGood metChecked meetingCall
 called = tt
 
--- 7: two images of one stall, and two that differ in N
+-- 7: two images of one stall, and two that differ in N, which comes before 8
 one-stall : meetingCall (freshImage 2 1) (freshImage 2 1) (5 ∷ 5 ∷ []) ≡ refusedMeeting (freshImage 2 1) (freshImage 2 1) (5 ∷ 5 ∷ []) 7
 unfolding called
 one-stall = refl
 
-two-sizes : meetingCall (freshImage 2 1) (freshImage 3 2) (5 ∷ 5 ∷ []) ≡ refusedMeeting (freshImage 2 1) (freshImage 3 2) (5 ∷ 5 ∷ []) 7
+two-sizes : meetingCall (freshImage 2 1) (freshImage 3 2) (5 ∷ []) ≡ refusedMeeting (freshImage 2 1) (freshImage 3 2) (5 ∷ []) 7
 unfolding called
 two-sizes = refl
 
