@@ -17,7 +17,7 @@ use Rattle.parlour.specs.History.{meetings, events, yieldAfter, yieldAt}
 use Rattle.parlour.specs.Table.{nameIn, named, tableAt, tableAfter, imageAfter}
 
 -- whoever unfolds this unfolds all that a history is computed with
-unfoldable evaluated : Unit {0}
+unfoldable pub evaluated : Unit {0}
 unfolding takesPart last newest put maxima joined clocks latest latestIn inPast newer best upTo verdicts Meetings.meeting elem seek lowestFree keep namedLabels samePair between labelAt current labels label partnerOf each bits encode counts history meetings events yieldAfter yieldAt nameIn named tableAt tableAfter imageAfter flatMap
 evaluated = tt
 
