@@ -1,8 +1,12 @@
 -- The cases of document 01's "Meetings to try" that are marked P.
-use Prim.Native.Nat.{ℕ, _+_, _*_}
+use Prim.Native.Nat.{ℕ, _+_, _-_, _^_}
+use mathlib.Core.Bool.{_||_, cond}
 use mathlib.Core.List.{List, [], _∷_, _++_}
+use lib.Dec.{eqb}
 use lib.ListN.{replicate}
-use Rattle.cases.specs.Case.{Given, labels, verdicts, firsts, together, milked, lines, number}
+use Rattle.image.specs.Stalls.{each}
+use Rattle.merge.specs.Examples.{nine-first, nine-second}
+use Rattle.cases.specs.Case.{Given, labels, verdicts, firsts, together, milked, lines, number, lent, everyTwo}
 
 pub record Case : Type 0 where
   pub given : Given
@@ -30,6 +34,28 @@ listing =
     ++ (0x00 ∷ 0x12 ∷ 0x00 ∷ 0x00 ∷ 0x00 ∷ 0x00 ∷ [])
     ++ (0x07 ∷ 0x06 ∷ 0x06 ∷ [])
 
+-- The first meeting of a parlour, of p and q: "The two that met get the new name and their current yields; their two rows are the new list of latests. Marks: every
+-- heard stall has one to each of the two that met". Nobody else was heard, and nobody was milked.
+module _ (n p q : ℕ) where
+  abbrev pub latests : List ℕ
+  latests = each n (λ c. cond (eqb c p) (q ∷ 0 ∷ []) (cond (eqb c q) (p ∷ 0 ∷ []) (0 ∷ 0 ∷ [])))
+
+  -- this for each of the two, that for any other stall
+  abbrev pub ofTheTwo : List ℕ → List ℕ → List ℕ
+  ofTheTwo this that = each n (λ r. cond (eqb r p || eqb r q) this that)
+
+  -- the image of one of them
+  abbrev pub metImage : ℕ → List ℕ
+  metImage own =
+      (n ∷ own ∷ 0 ∷ 0 ∷ [])
+      ++ ofTheTwo latests (replicate (n + n) 0)
+      ++ replicate (n + n) 0
+      ++ ofTheTwo ((2 ^ (p - 1) + 2 ^ (q - 1)) ∷ []) (0 ∷ [])
+
+-- label 0, both images, and verdicts all 0
+unfoldable pub firstMeetings : ℕ → List ℕ
+firstMeetings n = everyTwo n (λ p q. 0 ∷ (metImage n p q p ++ metImage n p q q ++ replicate n 0))
+
 unfoldable pub table : List Case
 table =
     -- "N=2, meeting 1-2 four times: labels 0, 1, 0, 1."
@@ -37,13 +63,13 @@ table =
     -- "N=3, 1-2, 1-3, 1-2, 1-2, 1-2: labels 0, 0, 1, 2, 1."
     ∷ (labels 3 ((1, 2) ∷ (1, 3) ∷ (1, 2) ∷ (1, 2) ∷ (1, 2) ∷ []) gives (0 ∷ 0 ∷ 1 ∷ 2 ∷ 1 ∷ []))
     -- "a first meeting: verdicts all 0."
-    ∷ (firsts 2 gives replicate (2 * (1 * 2)) 0)
-    ∷ (firsts 3 gives replicate (3 * (2 * 3)) 0)
-    ∷ (firsts 4 gives replicate (4 * (3 * 4)) 0)
-    ∷ (firsts 5 gives replicate (5 * (4 * 5)) 0)
-    ∷ (firsts 6 gives replicate (6 * (5 * 6)) 0)
-    ∷ (firsts 7 gives replicate (7 * (6 * 7)) 0)
-    ∷ (firsts 8 gives replicate (8 * (7 * 8)) 0)
+    ∷ (firsts 2 gives firstMeetings 2)
+    ∷ (firsts 3 gives firstMeetings 3)
+    ∷ (firsts 4 gives firstMeetings 4)
+    ∷ (firsts 5 gives firstMeetings 5)
+    ∷ (firsts 6 gives firstMeetings 6)
+    ∷ (firsts 7 gives firstMeetings 7)
+    ∷ (firsts 8 gives firstMeetings 8)
     -- "document 003's example 2.4 .., then 3-5: 2, 2, 0, 2, 2." and "instead 1-2: 0, 2, 0, 2, 2."
     ∷ (verdicts 5 example-2-4 3 5 gives (2 ∷ 2 ∷ 0 ∷ 2 ∷ 2 ∷ []))
     ∷ (verdicts 5 example-2-4 1 2 gives (0 ∷ 2 ∷ 0 ∷ 2 ∷ 2 ∷ []))
@@ -53,11 +79,10 @@ table =
     ∷ (lines ((0x01 ∷ 0x03 ∷ []) ∷ (0x02 ∷ 0x01 ∷ 0x00 ∷ 0x12 ∷ []) ∷ (0x03 ∷ 0x01 ∷ 0x02 ∷ []) ∷ (0x03 ∷ 0x02 ∷ 0x03 ∷ []) ∷ (0x04 ∷ 0x03 ∷ []) ∷ [])
     gives ((0x00 ∷ []) ++ (0x00 ∷ []) ++ (0x00 ∷ 0x00 ∷ 0x00 ∷ 0x00 ∷ 0x00 ∷ []) ++ (0x00 ∷ 0x00 ∷ 0x01 ∷ 0x01 ∷ 0x00 ∷ []) ++ (0x00 ∷ listing)))
     -- "both images of row 9"
-    ∷ (together (2 ∷ 1 ∷ 0 ∷ 0 ∷ 2 ∷ 0 ∷ 1 ∷ 0 ∷ 2 ∷ 0 ∷ 1 ∷ 0 ∷ 0 ∷ 0 ∷ 0 ∷ 0 ∷ 3 ∷ 3 ∷ []) (2 ∷ 2 ∷ 0 ∷ 0 ∷ 2 ∷ 1 ∷ 1 ∷ 1 ∷ 2 ∷ 1 ∷ 1 ∷ 1 ∷ 0 ∷ 0 ∷ 0 ∷ 0 ∷ 3 ∷ 3 ∷ [])
-    gives ((256 + 9) ∷ []))
+    ∷ (together nine-first nine-second gives ((256 + 9) ∷ (nine-first ++ nine-second ++ lent 2)))
     -- "yield 999 taken, 1000 is 4."
-    ∷ (milked 999 gives (0 ∷ []))
-    ∷ (milked 1000 gives (4 ∷ []))
+    ∷ (milked 999 gives (0 ∷ 2 ∷ 1 ∷ 0x03 ∷ 0xe7 ∷ replicate 14 0))
+    ∷ (milked 1000 gives (4 ∷ 2 ∷ 1 ∷ replicate 16 0))
     -- "N=3, label 12 passes check 5 on range, 13 does not."
     ∷ (number (withLabel 12) gives (0 ∷ []))
     ∷ (number (withLabel 13) gives (5 ∷ []))

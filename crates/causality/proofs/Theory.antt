@@ -1,15 +1,17 @@
 -- The theorems of `specs/Theory.antt` hold of every history.
-use Prim.Native.Nat.{suc}
+use Prim.Native.Nat.{ℕ, suc}
 use native.Mathlib.Omega.{arith}
 use Rattle.causality.specs.Event.{History}
 use Rattle.causality.specs.Past.{here}
-use Rattle.causality.specs.Theory.{Theory}
+use Rattle.causality.specs.Messages.{Action}
+use Rattle.causality.specs.Theory.{Theory, MessageTheory}
 use Rattle.causality.proofs.Pasts.{past-le, past-trans, comparable, view-apart, view-joined}
 use Rattle.causality.proofs.Clocks.{best-pasts, past-test, past-dec, latest-apart, latest-own, latest-max, latest-iff, latestIn-iff, latest-self}
 use Rattle.causality.proofs.Agreement.{agree-sym, past-agree, last-agree, latest-agree}
 use Rattle.causality.proofs.GoodPaths.{path-latest, path-best}
 use Rattle.causality.proofs.Common.{common-event}
 use Rattle.causality.proofs.Knowledge.{known-view, known-le, only-first-known, only-second-known, both-known, both-known-same, one-is-known, secondary, was-latest, unordered}
+use Rattle.causality.proofs.MessagePasts.{past-iff-below}
 
 pub theory : (h : History) → Theory h
 theory h =
@@ -46,3 +48,6 @@ theory h =
       own-row = latest-self h;
       unordered = unordered h;
     }
+
+pub message-theory : (N : ℕ) (u : ℕ → Action) → MessageTheory N u
+message-theory N u = record { past-iff-below = past-iff-below N u }

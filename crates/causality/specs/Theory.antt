@@ -1,4 +1,4 @@
--- The theorems of `causality`, as one record with a field for each. `proofs/Theory.antt` proves it for every history.
+-- The theorems of `causality`, as one record with a field for each, and those of messages. `proofs/Theory.antt` proves them for every history.
 use Prim.Native.Nat.{ℕ, suc, _≤_, _<_}
 use mathlib.Core.Path.{_≡_}
 use mathlib.Core.Logic.{_↔_, _⊎_}
@@ -11,6 +11,7 @@ use Rattle.causality.specs.Best.{best, bestIn}
 use Rattle.causality.specs.Known.{Known, CommonEvent}
 use Rattle.causality.specs.GoodPath.{LatestByPath, BestByPath, Winner, winner}
 use Rattle.causality.specs.Meetings.{Agree}
+use Rattle.causality.specs.Messages.{Action, messages, Computation, Below}
 
 pub record Theory (h : History) : Type 0 where
   -- 1. Past is reflexive on events, transitive, and decided by a computation.
@@ -58,3 +59,7 @@ pub record Theory (h : History) : Type 0 where
   -- 7. Row s is the same for all who have the same latest of s; what p alone has newer lies in the past of nothing that q has.
   pub own-row : (n p r : ℕ) → latest h n p r ≡ latestIn h (latest h n p p) r
   pub unordered : (n p q r s : ℕ) → latest h n q r < latest h n p r → Past h (latest h n p r) (latest h n q s) → ⊥
+
+-- For messages that go one way the past is document 004's order of events.
+pub record MessageTheory (N : ℕ) (u : ℕ → Action) : Type 0 where
+  pub past-iff-below : Computation N u → (x y : ℕ) → Past (messages N u) x y ↔ Below u x y

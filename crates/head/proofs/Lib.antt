@@ -6,3 +6,4 @@ pub mod Records
 pub mod HeardLists
 pub mod HeardCalls
 pub mod Milked
+pub mod Theory

@@ -1,4 +1,6 @@
 -- What a reader has to believe of `head`, in this order.
 pub mod Calls
 pub mod Heard
+pub mod Theory
+-- What the functions behind the heard list say to each other. No caller sees this.
 pub mod HeardOrder

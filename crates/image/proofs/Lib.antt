@@ -20,3 +20,4 @@ pub mod Made
 pub mod MadeAccepted
 pub mod AcceptedMade
 pub mod OwnRow
+pub mod Theory

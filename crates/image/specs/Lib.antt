@@ -8,3 +8,4 @@ pub mod Check
 pub mod Row
 pub mod Examples
 pub mod Made
+pub mod Theory

@@ -9,3 +9,4 @@ pub mod HeardLine
 pub mod Lines
 pub mod Refusals
 pub mod Images
+pub mod Theory

@@ -125,16 +125,17 @@ opening-examples : answersTo shut (map digitsOf
 unfolding answered replyTo answersTo
 opening-examples = refl
 
--- 3 before 4, 3 before 7, and yields of 999 and 1000
+-- 3 before 4, 3 before 7, yields of 999 and 1000, and the image that they leave
 stall-examples : answersTo shut (map digitsOf
     ((0x01 ∷ 0x02 ∷ [])
     ∷ (0x02 ∷ 0x00 ∷ 0x03 ∷ 0xe8 ∷ [])
     ∷ (0x03 ∷ 0x03 ∷ 0x03 ∷ [])
     ∷ (0x03 ∷ 0x01 ∷ 0x03 ∷ [])
     ∷ (0x03 ∷ 0x02 ∷ 0x02 ∷ [])
-    ∷ (0x02 ∷ 0x01 ∷ 0x03 ∷ 0xe8 ∷ [])
     ∷ (0x02 ∷ 0x01 ∷ 0x03 ∷ 0xe7 ∷ [])
+    ∷ (0x02 ∷ 0x01 ∷ 0x03 ∷ 0xe8 ∷ [])
+    ∷ (0x04 ∷ 0x01 ∷ [])
     ∷ []))
-    ≡ (0 ∷ []) ∷ (3 ∷ []) ∷ (3 ∷ []) ∷ (3 ∷ []) ∷ (7 ∷ []) ∷ (4 ∷ []) ∷ (0 ∷ []) ∷ []
+    ≡ (0 ∷ []) ∷ (3 ∷ []) ∷ (3 ∷ []) ∷ (3 ∷ []) ∷ (7 ∷ []) ∷ (0 ∷ []) ∷ (4 ∷ []) ∷ (0 ∷ 2 ∷ 1 ∷ 0x03 ∷ 0xe7 ∷ replicate 14 0) ∷ []
 unfolding answered replyTo answersTo
 stall-examples = refl

@@ -5,3 +5,4 @@ pub mod Parlour
 pub mod Answer
 pub mod Asked
 pub mod Examples
+pub mod Theory

@@ -32,7 +32,7 @@ use Rattle.merge.proofs.NewLabel.{newLabel-limit}
 
 -- Cases
 
-either : {A : Type 0} (P : A → Type 0) (x : Bool) (u v : A) → (x ≡ true → P u) → (x ≡ false → P v) → P (cond x u v)
+pub either : {A : Type 0} (P : A → Type 0) (x : Bool) (u v : A) → (x ≡ true → P u) → (x ≡ false → P v) → P (cond x u v)
 either P true u v f g = f refl
 either P false u v f g = g refl
 

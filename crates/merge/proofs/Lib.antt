@@ -21,3 +21,4 @@ pub mod MeetingWritten
 pub mod Together
 pub mod MeetingCalls
 pub mod AfterLaws
+pub mod Theory

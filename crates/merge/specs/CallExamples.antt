@@ -5,12 +5,12 @@ use Rattle.image.specs.Fresh.{freshImage}
 use Rattle.merge.specs.Examples.{evaluated, nine-first, nine-second}
 use Rattle.merge.specs.Call.{refusedMeeting, meetingCall}
 
--- 7: two images of one stall, and two that differ in N
+-- 7: two images of one stall, and two that differ in N, which comes before 8
 one-stall : meetingCall (freshImage 2 1) (freshImage 2 1) (5 ∷ 5 ∷ []) ≡ refusedMeeting (freshImage 2 1) (freshImage 2 1) (5 ∷ 5 ∷ []) 7
 unfolding evaluated
 one-stall = refl
 
-two-sizes : meetingCall (freshImage 2 1) (freshImage 3 2) (5 ∷ 5 ∷ []) ≡ refusedMeeting (freshImage 2 1) (freshImage 3 2) (5 ∷ 5 ∷ []) 7
+two-sizes : meetingCall (freshImage 2 1) (freshImage 3 2) (5 ∷ []) ≡ refusedMeeting (freshImage 2 1) (freshImage 3 2) (5 ∷ []) 7
 unfolding evaluated
 two-sizes = refl
 

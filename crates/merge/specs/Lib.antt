@@ -4,6 +4,7 @@ pub mod Verdict
 pub mod Label
 pub mod Merged
 pub mod Call
+pub mod Theory
 pub mod Examples
 pub mod CallExamples
 -- What the functions of `merge` say to each other. No caller sees this.

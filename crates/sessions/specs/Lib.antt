@@ -5,5 +5,6 @@ pub mod Call
 pub mod Session
 pub mod Claim
 pub mod Input
+pub mod Examples
 pub mod Stream
 pub mod Theory

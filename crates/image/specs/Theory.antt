@@ -1,0 +1,23 @@
+-- What callers may use of the check, as one record with a field for each law. `proofs/Theory.antt` proves it.
+use Prim.Native.Nat.{ℕ, _≤_, _<_}
+use mathlib.Core.Path.{_≡_}
+use mathlib.Core.List.{List}
+use lib.ListN.{getD}
+use Rattle.image.specs.Layout.{largest}
+use Rattle.image.specs.Fresh.{freshImage}
+use Rattle.image.specs.Check.{checked}
+use Rattle.image.specs.Encode.{Table, encode, tableOf}
+use Rattle.image.specs.Made.{Made}
+use Rattle.image.specs.declared.Checked.the-variants.{Good}
+
+-- the image passes, as that of the head at stall own of n heads
+abbrev pub Passes : List ℕ → ℕ → ℕ → Type 0
+Passes s n own = checked s ≡ Good (record { n = n; stall = own })
+
+pub record Theory : Type 0 where
+  -- A fresh image passes.
+  pub fresh-accepted : (n own : ℕ) → 2 ≤ n → n ≤ largest → 1 ≤ own → own ≤ n → Passes (freshImage n own) n own
+  -- The check of an image is `Made` of its table, and an image that passes is the image of what it says.
+  pub accepted-made : (s : List ℕ) (n own : ℕ) → Passes s n own → Made n own (tableOf s n)
+  pub made-accepted : (n own : ℕ) (t : Table) → 2 ≤ n → n ≤ largest → 1 ≤ own → own ≤ n → Made n own t → Passes (encode n own t) n own
+  pub accepted-encode : (s : List ℕ) (n own : ℕ) → Passes s n own → ((k : ℕ) → getD s k 0 < 256) → encode n own (tableOf s n) ≡ s

@@ -1,0 +1,52 @@
+-- Document 01's listing, from input to output, by evaluation of what lines alone say.
+use Prim.Native.Nat.{ℕ}
+use mathlib.Core.Path.{_≡_, refl}
+use mathlib.Core.List.{List, [], _∷_, _++_}
+use Rattle.line.specs.Digits.{digitsOf}
+use Rattle.line.specs.Examples.{answered}
+use Rattle.parlour.specs.Examples.{evaluated}
+use Rattle.stream.specs.Stream.{newline}
+use Rattle.sessions.specs.Lines.{opens, heads, itemsOf, items}
+use Rattle.sessions.specs.Input.{linesFrom, linesOf, AnswersTo, none, one-more}
+
+-- the frames of the listing
+abbrev frames : List (List ℕ)
+frames = (0x01 ∷ 0x03 ∷ []) ∷ (0x02 ∷ 0x01 ∷ 0x00 ∷ 0x12 ∷ []) ∷ (0x03 ∷ 0x01 ∷ 0x02 ∷ []) ∷ (0x03 ∷ 0x02 ∷ 0x03 ∷ []) ∷ (0x04 ∷ 0x03 ∷ []) ∷ []
+
+-- and its answers
+abbrev answers : List (List ℕ)
+answers =
+    (0x00 ∷ [])
+    ∷ (0x00 ∷ [])
+    ∷ (0x00 ∷ 0x00 ∷ 0x00 ∷ 0x00 ∷ 0x00 ∷ [])
+    ∷ (0x00 ∷ 0x00 ∷ 0x01 ∷ 0x01 ∷ 0x00 ∷ [])
+    ∷ (0x00 ∷ 0x03 ∷ 0x03 ∷ 0x00 ∷ 0x00 ∷ 0x02 ∷ 0x00 ∷ 0x01 ∷ 0x00 ∷ 0x00 ∷ 0x00 ∷ 0x02 ∷ 0x00 ∷ 0x03 ∷ 0x00 ∷ 0x02 ∷ 0x00
+    ∷ 0x02 ∷ 0x00 ∷ 0x03 ∷ 0x00 ∷ 0x02 ∷ 0x00 ∷ 0x00 ∷ 0x12 ∷ 0x00 ∷ 0x00 ∷ 0x00 ∷ 0x00 ∷ 0x07 ∷ 0x06 ∷ 0x06 ∷ [])
+    ∷ []
+
+-- as text, each with a newline behind it
+text : List (List ℕ) → List ℕ
+text [] = []
+text (bytes ∷ l) = digitsOf bytes ++ (newline ∷ text l)
+
+-- a line has no newline; behind the last newline there is no line, and a last line may lack it
+lines-examples : (linesOf (text ((0x01 ∷ 0x03 ∷ []) ∷ (0x04 ∷ 0x01 ∷ []) ∷ [])) ≡ digitsOf (0x04 ∷ 0x01 ∷ []) ∷ digitsOf (0x01 ∷ 0x03 ∷ []) ∷ [])
+    × (linesOf (digitsOf (0x01 ∷ 0x03 ∷ [])) ≡ digitsOf (0x01 ∷ 0x03 ∷ []) ∷ [])
+    × (linesOf (newline ∷ newline ∷ []) ≡ [] ∷ [] ∷ [])
+unfolding answered linesFrom text
+lines-examples = (refl, refl, refl)
+
+-- "Input and whole output"
+listing-example : AnswersTo (linesOf (text frames)) (text answers)
+unfolding answered evaluated linesFrom text opens heads itemsOf items
+listing-example =
+    one-more
+    (one-more
+    (one-more
+    (one-more
+    (one-more none _ (0x00 ∷ []) refl)
+    _ (0x00 ∷ []) refl)
+    _ (0x00 ∷ 0x00 ∷ 0x00 ∷ 0x00 ∷ 0x00 ∷ []) refl)
+    _ (0x00 ∷ 0x00 ∷ 0x01 ∷ 0x01 ∷ 0x00 ∷ []) refl)
+    _ (0x00 ∷ 0x03 ∷ 0x03 ∷ 0x00 ∷ 0x00 ∷ 0x02 ∷ 0x00 ∷ 0x01 ∷ 0x00 ∷ 0x00 ∷ 0x00 ∷ 0x02 ∷ 0x00 ∷ 0x03 ∷ 0x00 ∷ 0x02 ∷ 0x00
+    ∷ 0x02 ∷ 0x00 ∷ 0x03 ∷ 0x00 ∷ 0x02 ∷ 0x00 ∷ 0x00 ∷ 0x12 ∷ 0x00 ∷ 0x00 ∷ 0x00 ∷ 0x00 ∷ 0x07 ∷ 0x06 ∷ 0x06 ∷ []) refl
