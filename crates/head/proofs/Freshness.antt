@@ -11,7 +11,7 @@ use Rattle.image.specs.Layout.{largest, isCount, longest, lengthOf}
 use Rattle.image.specs.Fresh.{freshImage, freshTable}
 use Rattle.image.specs.Check.{badStall}
 use Rattle.image.proofs.Stages.{in-range, length-range}
-use Rattle.image.proofs.FreshTable.{fresh-front}
+use Rattle.image.proofs.FreshTable.{fresh-front, length-table}
 use Rattle.head.specs.Calls.{Outcome, refused, accepted, freshCall}
 
 -- an image's length, by the test of N
@@ -33,6 +33,9 @@ module _ (s : List ℕ) (n stall : ℕ) where
 
   pub fresh-short : not (isCount n) ≡ false → length s ≡ lengthOf n → length s ≤ longest
   fresh-short a b = rw b (lengths n a .1)
+
+  pub fresh-long : (table : List ℕ) → not (isCount n) ≡ false → table ≡ freshTable n stall → length table ≡ longest
+  fresh-long table a e = let (p, q) = in-range 2 largest n a in ap length e ∙ length-table n stall p q
 
   pub fresh-done : (out table : List ℕ) → not (isCount n) ≡ false → length s ≡ lengthOf n → badStall n stall ≡ false
       → out ≡ take (length s) table → table ≡ freshTable n stall → accepted out ≡ freshCall s n stall

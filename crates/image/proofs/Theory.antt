@@ -1,16 +1,14 @@
 -- The laws of `specs/Theory.antt` hold.
-use mathlib.Core.Path.{ap, _∙_}
-use Rattle.image.specs.Check.{checked}
 use Rattle.image.specs.Theory.{Theory}
 use Rattle.image.proofs.Accepted.{accepted, checked-accepted, accepted-encode}
 use Rattle.image.proofs.AcceptedMade.{accepted-made}
 use Rattle.image.proofs.MadeAccepted.{made-accepted}
-use Rattle.image.proofs.FreshTable.{fresh-accepted, fresh-is-nothing}
+use Rattle.image.proofs.FreshTable.{fresh-accepted}
 
 pub theory : Theory
 theory =
     record {
-      fresh-accepted = λ n own i j k l. ap checked (fresh-is-nothing n own i j k l) ∙ checked-accepted (fresh-accepted n own i j k l);
+      fresh-accepted = λ n own i j k l. checked-accepted (fresh-accepted n own i j k l);
       accepted-made = λ s n own e. accepted-made (accepted s _ e);
       made-accepted = λ n own t i j k l m. checked-accepted (made-accepted n own t i j k l m);
       accepted-encode = λ s n own e. accepted-encode (accepted s _ e);

@@ -7,7 +7,7 @@ use native.Mathlib.Omega.{arith}
 use borrow.Author.Tests.{lt-ltb, le-ltb}
 use lib.ListN.{length, take, drop, replicate, length-append, length-drop}
 use lib.Seq.{length-take-le, take-append-le}
-use Rattle.image.specs.Layout.{lengthOf}
+use Rattle.image.specs.Layout.{largest, lengthOf}
 use Rattle.image.specs.Check.{badStall}
 use Rattle.head.specs.Heard.{HeardCall}
 use Rattle.line.specs.Parlour.{headsOf, slotPlace, imageOf}
@@ -46,25 +46,25 @@ module _ {state out : List ℕ} {stall at size m : ℕ} (w : Listed state out st
   pub list-fits : at + size ≤ length state
   list-fits = image-fits state out stall at size (w .opened) (stall-of _ _ (w .good)) (w .stands) size-is
 
-  few : 3 * m ≤ 24
+  few : 3 * m ≤ (3 * largest)
   few = omega (arith, w .m-is, w .opened .to)
 
-  pub buffer-long : 3 * m ≡ length (take {A = ℕ} (3 * m) (replicate 24 0))
-  buffer-long = sym (length-take-le {A = ℕ} (3 * m) (replicate 24 0) few)
+  pub buffer-long : 3 * m ≡ length (take {A = ℕ} (3 * m) (replicate (3 * largest) 0))
+  buffer-long = sym (length-take-le {A = ℕ} (3 * m) (replicate (3 * largest) 0) few)
 
-  -- the call, with a buffer at the front of 24 zeros
-  module _ {r : ℕ} {x : List ℕ} (call : HeardCall (take (at + size - at) (drop at state)) (take (3 * m) (replicate 24 0)) r x)
-      (x-long : length x ≡ length (take {A = ℕ} (3 * m) (replicate 24 0))) where
+  -- the call, with a buffer at the front of zeros for the largest parlour
+  module _ {r : ℕ} {x : List ℕ} (call : HeardCall (take (at + size - at) (drop at state)) (take (3 * m) (replicate (3 * largest) 0)) r x)
+      (x-long : length x ≡ length (take {A = ℕ} (3 * m) (replicate (3 * largest) 0))) where
     pub heard-code : (r ≤ 264) × (r < 256 → r ≤ m)
     heard-code = heard-number _ _ x m r (sym buffer-long) x-long (omega (arith, few)) call
 
-    pub records-long : length (x ++ drop (3 * m) (replicate 24 0)) ≡ 24
-    records-long = length-append x (drop (3 * m) (replicate 24 0)) ∙ omega (arith, x-long, buffer-long, length-drop {A = ℕ} (3 * m) (replicate 24 0), few)
+    pub records-long : length (x ++ drop (3 * m) (replicate (3 * largest) 0)) ≡ (3 * largest)
+    records-long = length-append x (drop (3 * m) (replicate (3 * largest) 0)) ∙ omega (arith, x-long, buffer-long, length-drop {A = ℕ} (3 * m) (replicate (3 * largest) 0), few)
 
     the-call : HeardCall (imageOf state stall) (replicate (3 * headsOf state) 0) r x
     the-call =
         subst (λ l. HeardCall l (replicate (3 * headsOf state) 0) r x) (the-image state out stall at size (w .opened) (stall-of _ _ (w .good)) (w .stands) size-is)
-        (subst (λ l. HeardCall (take (at + size - at) (drop at state)) l r x) (take-zeros (3 * m) 24 few ∙ ap (λ k. replicate (3 * k) 0) (w .m-is)) call)
+        (subst (λ l. HeardCall (take (at + size - at) (drop at state)) l r x) (take-zeros (3 * m) (3 * largest) few ∙ ap (λ k. replicate (3 * k) 0) (w .m-is)) call)
 
     pub heard-refused : {out′ : List ℕ} {count : ℕ} → 256 ≤ r → (count ≡ 2) × (out′ ≡ written out ((r - 256) ∷ [])) → Replied state out true (Heard stall) count state out′
     heard-refused l v =
@@ -76,22 +76,22 @@ module _ {state out : List ℕ} {stall at size m : ℕ} (w : Listed state out st
         }
 
     module _ (less : r < 256) where
-      pub used-fits : 3 * r ≤ length (x ++ drop (3 * m) (replicate 24 0))
+      pub used-fits : 3 * r ≤ length (x ++ drop (3 * m) (replicate (3 * largest) 0))
       used-fits = omega (arith, heard-code .1 less, records-long, few)
 
-      pub used-long : (3 * r ≡ length (take (3 * r) (x ++ drop (3 * m) (replicate 24 0)))) × (3 * r ≤ 24)
-      used-long = (sym (length-take-le (3 * r) (x ++ drop (3 * m) (replicate 24 0)) used-fits), omega (arith, heard-code .1 less, few))
+      pub used-long : (3 * r ≡ length (take (3 * r) (x ++ drop (3 * m) (replicate (3 * largest) 0)))) × (3 * r ≤ (3 * largest))
+      used-long = (sym (length-take-le (3 * r) (x ++ drop (3 * m) (replicate (3 * largest) 0)) used-fits), omega (arith, heard-code .1 less, few))
 
-      the-records : take (3 * r) (x ++ drop (3 * m) (replicate 24 0)) ≡ take (3 * r) x
-      the-records = take-append-le (3 * r) x (drop (3 * m) (replicate 24 0)) (omega (arith, heard-code .1 less, x-long, buffer-long))
+      the-records : take (3 * r) (x ++ drop (3 * m) (replicate (3 * largest) 0)) ≡ take (3 * r) x
+      the-records = take-append-le (3 * r) x (drop (3 * m) (replicate (3 * largest) 0)) (omega (arith, heard-code .1 less, x-long, buffer-long))
 
       pub heard-done : {out′ : List ℕ} {count : ℕ}
-          → (count ≡ 4 + 2 * length (take (3 * r) (x ++ drop (3 * m) (replicate 24 0)))) × (out′ ≡ written out (0 ∷ r ∷ take (3 * r) (x ++ drop (3 * m) (replicate 24 0))))
+          → (count ≡ 4 + 2 * length (take (3 * r) (x ++ drop (3 * m) (replicate (3 * largest) 0)))) × (out′ ≡ written out (0 ∷ r ∷ take (3 * r) (x ++ drop (3 * m) (replicate (3 * largest) 0))))
           → Replied state out true (Heard stall) count state out′
       heard-done v =
-          let reply : Reply = record { bytes = 0 ∷ r ∷ take (3 * r) (x ++ drop (3 * m) (replicate 24 0)); state = state } in
+          let reply : Reply = record { bytes = 0 ∷ r ∷ take (3 * r) (x ++ drop (3 * m) (replicate (3 * largest) 0)); state = state } in
           record {
             reply = reply;
             replies = subst (HeardAnswer state stall reply) (sym (w .good)) (record { count = r; records = x; heard = the-call; replied = rw (lt-ltb r 256 less, the-records) });
-            given = given-bytes (0 ∷ r ∷ take (3 * r) (x ++ drop (3 * m) (replicate 24 0))) refl (omega (arith, v .0)) (v .1);
+            given = given-bytes (0 ∷ r ∷ take (3 * r) (x ++ drop (3 * m) (replicate (3 * largest) 0))) refl (omega (arith, v .0)) (v .1);
           }

@@ -8,32 +8,29 @@ use borrow.Author.Tests.{le-leb}
 use lib.ListN.{length, getD, take, drop, replicate, length-append, length-drop, length-replicate, List·getD-append}
 use lib.Seq.{length-take-le, take-at, drop-at, getD-take, getD-drop, getD-append-add, ext-getD}
 use Rattle.image.specs.Stalls.{each}
-use Rattle.image.specs.Layout.{largest, lengthOf}
+use Rattle.image.specs.Layout.{largest, lengthOf, longest}
 use Rattle.image.specs.Fresh.{freshImage}
 use Rattle.image.proofs.Has.{has-part, Has, has-self, has-left, has-right, has-each}
 use Rattle.image.proofs.Stages.{length-range}
-use Rattle.line.specs.Parlour.{slotLength, stateLength, headsOf, slotPlace, imageOf, withImage, freshSlot, freshState}
+use Rattle.image.proofs.FreshTable.{length-fresh, fresh-table}
+use Rattle.line.specs.Parlour.{stateLength, headsOf, slotPlace, imageOf, withImage, freshSlot, freshState}
 use Rattle.line.specs.Asked.{StallOf}
 use Rattle.line.proofs.Slots.{slot-fits, length-slot}
 
 -- an opened parlour has the fresh image of each stall
 module _ (n r : ℕ) (from : 2 ≤ n) (to : n ≤ largest) (good : StallOf n r) where
-  length-fresh : length (freshImage n r) ≡ lengthOf n
-  unfolding freshImage
-  length-fresh = omega (arith, length-replicate {A = ℕ} (lengthOf n - 2) 0, length-range n from to .0)
-
   slot-there : Has (n ∷ each largest (freshSlot n)) (slotPlace r) (freshSlot n r)
   slot-there =
-      has-each slotLength (freshSlot n) (λ k. length-slot n k from to) largest (has-right (n ∷ []) (each largest (freshSlot n)) (has-self (n ∷ each largest (freshSlot n)))) r (good .from)
+      has-each longest (freshSlot n) (λ k. length-slot n k from to) largest (has-right (n ∷ []) (each largest (freshSlot n)) (has-self (n ∷ each largest (freshSlot n)))) r (good .from)
       (omega (arith, good .to))
 
   image-there : Has (n ∷ each largest (freshSlot n)) (slotPlace r) (freshImage n r)
   unfolding freshSlot
-  image-there = has-left (freshImage n r) (replicate (slotLength - lengthOf n) 0) (rw (le-leb r n (good .to)) at slot-there)
+  image-there = has-left (freshImage n r) (replicate (longest - lengthOf n) 0) (rw (le-leb r n (good .to), fresh-table n r from to) at slot-there)
 
   pub opened-image : imageOf (freshState n) r ≡ freshImage n r
   unfolding imageOf freshState
-  opened-image = ap (λ k. take k (drop (slotPlace r) (n ∷ each largest (freshSlot n)))) (sym length-fresh) ∙ has-part image-there
+  opened-image = ap (λ k. take k (drop (slotPlace r) (n ∷ each largest (freshSlot n)))) (sym (length-fresh n r from to)) ∙ has-part image-there
 
 -- another image at stall r
 module _ (state : List ℕ) (r : ℕ) (x : List ℕ) (long : length state ≡ stateLength) (from : 2 ≤ headsOf state) (to : headsOf state ≤ largest) (good : StallOf (headsOf state) r)

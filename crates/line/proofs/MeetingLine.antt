@@ -7,10 +7,10 @@ use native.Mathlib.Omega.{arith}
 use borrow.Author.Tests.{lt-ltb, le-ltb, eq-eqb, ne-eqb}
 use lib.ListN.{length, take, drop, replicate, length-append, length-drop, length-replicate}
 use lib.Seq.{length-take-le, take-at}
-use Rattle.image.specs.Layout.{largest, lengthOf}
+use Rattle.image.specs.Layout.{largest, lengthOf, longest}
 use Rattle.image.specs.Check.{badStall}
 use Rattle.merge.specs.Call.{MeetingOutcome, meetingCall}
-use Rattle.line.specs.Parlour.{slotLength, headsOf, slotPlace, imageOf, withImage}
+use Rattle.line.specs.Parlour.{headsOf, slotPlace, imageOf, withImage}
 use Rattle.line.specs.Answer.{refusal, metBy, meetingOf, meeting}
 use Rattle.line.specs.Asked.{Opened, StallOf}
 use Rattle.line.proofs.Numbers.{meeting-code}
@@ -65,7 +65,7 @@ module _ {state out : List ℕ} {n p q m count a b : ℕ} (w : Stalls state out 
   pub m-to : m ≤ largest
   m-to = omega (arith, w .m-is, w .n-is, w .opened .to)
 
-  pub short : count ≤ slotLength
+  pub short : count ≤ longest
   short = image-short state out p a count (w .opened) first-good (w .a-is) long
 
   pub fits-first : a + count ≤ length state
@@ -78,15 +78,15 @@ module _ {state out : List ℕ} {n p q m count a b : ℕ} (w : Stalls state out 
   zeros-long = sym (length-take-le {A = ℕ} m (replicate largest 0) m-to)
 
   -- the copy of the second's image
-  module _ (image : List ℕ) (image-is : image ≡ take count (drop b state) ++ replicate (slotLength - count) 0) where
+  module _ (image : List ℕ) (image-is : image ≡ take count (drop b state) ++ replicate (longest - count) 0) where
     part : length (take count (drop b state)) ≡ count
     part = length-take-le count (drop b state) (omega (arith, length-drop b state, fits-second))
 
-    pub image-long : length image ≡ slotLength
+    pub image-long : length image ≡ longest
     image-long =
         ap length image-is
-        ∙ length-append (take count (drop b state)) (replicate (slotLength - count) 0)
-        ∙ omega (arith, part, length-replicate {A = ℕ} (slotLength - count) 0, short)
+        ∙ length-append (take count (drop b state)) (replicate (longest - count) 0)
+        ∙ omega (arith, part, length-replicate {A = ℕ} (longest - count) 0, short)
 
     pub lent-long : count ≡ length (take count image)
     lent-long = sym (length-take-le count image (omega (arith, image-long, short)))
@@ -95,7 +95,7 @@ module _ {state out : List ℕ} {n p q m count a b : ℕ} (w : Stalls state out 
     unfolding imageOf
     lent-second =
         ap (take count) image-is
-        ∙ take-at (take count (drop b state)) (replicate (slotLength - count) 0) count part
+        ∙ take-at (take count (drop b state)) (replicate (longest - count) 0) count part
         ∙ ap₂ (λ k at. take k (drop at state)) long (w .b-is)
 
     -- what the call leaves
@@ -125,7 +125,7 @@ module _ {state out : List ℕ} {n p q m count a b : ℕ} (w : Stalls state out 
           length-append (take a state) (f ++ drop (a + count - a) (drop a state))
           ∙ omega (arith, length-take-le a state (omega (arith, fits-first)), length-append f (drop (a + count - a) (drop a state)), length-drop (a + count - a) (drop a state), length-drop a state, first-long, fits-first)
 
-      pub may-write : (count ≤ slotLength) × (b + count ≤ length (take a state ++ (f ++ drop (a + count - a) (drop a state)))) × (length (s ++ drop count image) ≡ slotLength)
+      pub may-write : (count ≤ longest) × (b + count ≤ length (take a state ++ (f ++ drop (a + count - a) (drop a state)))) × (length (s ++ drop count image) ≡ longest)
       may-write = (
         short,
         omega (arith, length-after, fits-second),

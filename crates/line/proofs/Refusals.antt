@@ -9,7 +9,7 @@ use borrow.Author.Tests.{ltb-false}
 use lib.Dec.{ltb, eqb}
 use lib.ListN.{length, getD, take, drop, replicate, take-append-drop, length-drop}
 use lib.Seq.{length-take-le, drop-drop}
-use Rattle.image.specs.Layout.{largest, yieldLimit, lengthOf}
+use Rattle.image.specs.Layout.{largest, yieldLimit, lengthOf, isCount}
 use Rattle.image.specs.Encode.{tableOf}
 use Rattle.image.specs.Check.{badStall, checked}
 use Rattle.image.specs.declared.Header.{Header}
@@ -21,7 +21,7 @@ use Rattle.head.specs.Calls.{refused, accepted as done, withCurrent, milked, mi
 use Rattle.merge.specs.Verdict.{undecided}
 use Rattle.merge.specs.Call.{MeetingOutcome, refusedMeeting, acceptedMeeting, metTogether, metGood, metChecked, meetingCall}
 use Rattle.merge.proofs.NewLabel.{newLabel-limit}
-use Rattle.line.specs.Parlour.{stateLength, headsOf, isCount, isOpen, slotPlace, imageOf, withImage, freshState}
+use Rattle.line.specs.Parlour.{stateLength, headsOf, isOpen, slotPlace, imageOf, withImage, freshState}
 use Rattle.line.specs.Answer.{Reply, answerBytes, refusal, opening, milkedBy, milking, metBy, meetingOf, meeting, showing, HeardAnswer, Replies}
 use Rattle.line.specs.declared.frame.Frame.{Frame}
 use Rattle.line.specs.declared.frame.Frame.the-variants.{Open, Milking, Meeting, Show, Heard, Bad}

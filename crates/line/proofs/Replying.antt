@@ -6,14 +6,14 @@ use mathlib.Core.List.{List, [], _∷_, _++_, append-assoc}
 use native.Mathlib.Omega.{arith}
 use lib.ListN.{length, take, drop, length-append, length-drop}
 use lib.Seq.{drop-drop, length-take-le}
-use Rattle.image.specs.Layout.{largest, lengthOf}
+use Rattle.image.specs.Layout.{largest, lengthOf, longest, isCount}
 use Rattle.image.specs.Check.{badStall}
 use Rattle.image.proofs.Stages.{in-range}
 use Rattle.head.specs.Calls.{Outcome, milkingCall}
 use Rattle.image.proofs.Stages.{length-range}
 use Rattle.image.proofs.Overwrite.{behind}
 use Rattle.line.specs.Digits.{pairOf, digitsOf}
-use Rattle.line.specs.Parlour.{slotLength, headsOf, isCount, slotPlace, imageOf, withImage, freshState}
+use Rattle.line.specs.Parlour.{headsOf, slotPlace, imageOf, withImage, freshState}
 use Rattle.line.specs.Answer.{Reply, refusal, opening, milkedBy, milking, Replies, written, Given, Replied}
 use Rattle.line.specs.declared.frame.Frame.{Frame}
 use Rattle.line.specs.Asked.{Opened, StallOf}
@@ -61,7 +61,7 @@ stall-of n stall e = let (a, b) = in-range 1 n stall e in record { from = a; to 
 
 module _ (state out : List ℕ) (stall at count : ℕ) (opened : Opened state out) (good : StallOf (headsOf state) stall) (stands : at ≡ slotPlace stall)
     (long : count ≡ lengthOf (headsOf state)) where
-  pub image-short : count ≤ slotLength
+  pub image-short : count ≤ longest
   image-short = omega (arith, length-range (headsOf state) (opened .from) (opened .to) .1)
 
   pub image-fits : at + count ≤ length state

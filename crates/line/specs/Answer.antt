@@ -1,19 +1,20 @@
 -- The answer to a line.
 -- Document 01: "An answer is `00`, then for a meeting the label and N verdicts, for `04` the image, for `05` the count and the records alone; or the refusal
 -- number in two hexadecimal digits (ten is `0a`). Order: 10, 11, then 1, 3, 4, 7. An empty line is 10. An opening refused with 1 opens nothing."
-use Prim.Native.Nat.{ℕ, _-_, _*_}
+use Prim.Native.Nat.{ℕ, _+_, _-_, _*_}
 use mathlib.Core.Path.{_≡_}
 use mathlib.Core.Bool.{Bool, true, false, _&&_, cond}
 use mathlib.Core.List.{List, [], _∷_, _++_}
 use lib.Dec.{leb, ltb, eqb}
 use lib.ListN.{length, take, drop, replicate}
+use Rattle.image.specs.Layout.{isCount, longest}
 use Rattle.image.specs.Check.{badStall}
 use Rattle.head.specs.Calls.{Outcome, milkingCall}
 use Rattle.head.specs.Heard.{HeardCall}
 use Rattle.merge.specs.Call.{MeetingOutcome, meetingCall}
 use Rattle.line.specs.Digits.{digitsOf}
 use Rattle.line.specs.Frame.{frameOf}
-use Rattle.line.specs.Parlour.{stateLength, headsOf, isCount, isOpen, imageOf, withImage, freshState}
+use Rattle.line.specs.Parlour.{stateLength, headsOf, isOpen, imageOf, withImage, freshState}
 use Rattle.line.specs.declared.frame.Frame.{Frame}
 use Rattle.line.specs.declared.frame.Frame.the-variants.{Open, Milking, Meeting, Show, Heard, Bad}
 
@@ -92,9 +93,9 @@ module _ (state : List ℕ) where
 unfoldable pub written : List ℕ → List ℕ → List ℕ
 written out bytes = digitsOf bytes ++ drop (2 * length bytes) out
 
--- the longest answer: `00` and an image of 156 bytes
+-- the longest answer: `00` and the longest image
 abbrev pub longestAnswer : ℕ
-longestAnswer = 314
+longestAnswer = 2 + 2 * longest
 
 -- a reply in the buffers of a call: how many digits come back, and every byte of the state and of the buffer afterwards
 pub record Given (out : List ℕ) (reply : Reply) (count : ℕ) (state′ out′ : List ℕ) : Type 0 where

@@ -4,16 +4,7 @@ use mathlib.Core.Path.{_≡_, refl}
 use mathlib.Core.Bool.{Bool, true, false, true≢false}
 use mathlib.Core.List.{List, [], _∷_, _++_, map, flatMap}
 use lib.ListN.{replicate}
-use Rattle.image.specs.Stalls.{some, each, bits, has}
-use Rattle.image.specs.Layout.{markAt, nameFrom, nameAt, heardAt}
-use Rattle.image.specs.Fresh.{freshImage}
-use Rattle.image.specs.Encode.{encode, tableOf}
-use Rattle.image.specs.Check.{badCount, badLength, badYields, badDiagonal, badUnheard, badRow, badNames, badOrder, badMarks, checkBody, checked}
-use Rattle.merge.specs.Known.{common, known}
-use Rattle.merge.specs.Verdict.{verdict, undecided}
-use Rattle.merge.specs.Label.{labelUsed, lowestFrom, newLabel}
-use Rattle.merge.specs.Merged.{latestName, mergedNames, mergedYields, mergedOrder, merged, verdictBytes}
-use Rattle.merge.specs.Call.{metTogether, metGood, metChecked, meetingCall}
+use Rattle.merge.specs.Examples.{evaluated as merge-evaluated}
 use Rattle.head.specs.Calls.{milked, milkingCall}
 use Rattle.line.specs.Digits.{isDigit, digitValue, allDigits, wholePairs, pairValue, bytesOf, digitOf, digitsOf}
 use Rattle.line.specs.Frame.{kindOfTwo, kindOfThree, kindOfFour, frameOfBytes, frameOf}
@@ -24,7 +15,7 @@ use Rattle.line.specs.declared.frame.Frame.the-variants.{Open, Milking, 
 
 -- whoever unfolds this unfolds all that an answer is computed with
 unfoldable pub answered : Unit {0}
-unfolding flatMap some each bits has markAt nameFrom nameAt heardAt freshImage encode tableOf badCount badLength badYields badDiagonal badUnheard badRow badNames badOrder badMarks checkBody checked common known verdict undecided labelUsed lowestFrom newLabel latestName mergedNames mergedYields mergedOrder merged verdictBytes metTogether metGood metChecked meetingCall milked milkingCall isDigit digitValue allDigits wholePairs pairValue bytesOf digitOf digitsOf kindOfTwo kindOfThree kindOfFour frameOfBytes frameOf imageOf withImage freshSlot freshState opening milking meetingOf meeting showing
+unfolding flatMap merge-evaluated milked milkingCall isDigit digitValue allDigits wholePairs pairValue bytesOf digitOf digitsOf kindOfTwo kindOfThree kindOfFour frameOfBytes frameOf imageOf withImage freshSlot freshState opening milking meetingOf meeting showing
 answered = tt
 
 -- the one reply to any frame but a heard list's

@@ -11,19 +11,25 @@ ghost use Rattle.line.specs.declared.frame.Frame.the-variants.{Heard};
 use crate::digits::put_byte;
 use crate::digits::put_bytes;
 use crate::frame::Frame;
-use crate::parlour::bad_stall;
 use crate::parlour::image_at;
-use crate::parlour::is_count;
 use crate::parlour::open_parlour;
 use crate::parlour::place_of;
 use crate::parlour::write_image;
+use image::LONGEST;
 use image::STALLS;
+use image::bytes::bad_stall;
+use image::bytes::is_count;
 use image::bytes::wide;
 use image::length_of;
 
 mod digits;
 pub mod frame;
 mod parlour;
+
+// The bytes of the state between lines, and the digits of the longest answer: `00` and the longest image.
+pub const STATE: usize = 1 + STALLS * LONGEST;
+
+pub const ANSWER: usize = 2 + 2 * LONGEST;
 
 // An answer of one byte: a refusal's number, or 0.
 fn reply_byte(out: &mut [u8], byte: u8) -> usize
@@ -193,15 +199,15 @@ fn answer_shut(state: &mut [u8], frame: Frame, out: &mut [u8]) -> usize
     }
 }
 
-// The answer to a line as digits at the start of out, and how many they are: 0 where the state has not 1249 bytes or out not 314.
+// The answer to a line as digits at the start of out, and how many they are: 0 where the state has not STATE bytes or out fewer than ANSWER.
 pub fn answer(state: &mut [u8], line: &[u8], out: &mut [u8]) -> usize
     ensures { λ r.
         ⌜ AnswerCall (now (state .entry)) (now (line .entry)) (now (out .entry)) r (now (state .exit)) (now (out .exit)) ⌝ }
 {
-    if state.len() != 1249 {
+    if state.len() != STATE {
         return 0;
     }
-    if out.len() < 314 {
+    if out.len() < ANSWER {
         return 0;
     }
     let parsed = frame::parse(line);

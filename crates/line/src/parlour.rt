@@ -3,40 +3,26 @@ ghost use mathlib.Core.Path.{_≡_};
 ghost use mathlib.Core.List.{_++_};
 ghost use Prim.Native.Nat.{_+_, _-_, _≤_};
 ghost use lib.ListN.{length, take, drop, replicate};
-ghost use Rattle.image.specs.Check.{badStall};
-ghost use Rattle.image.specs.Layout.{largest};
+ghost use Rattle.image.specs.Layout.{largest, longest};
 ghost use Rattle.image.specs.Stalls.{each};
-ghost use Rattle.line.specs.Parlour.{slotLength, stateLength, isCount, slotPlace, freshSlot, freshState};
+ghost use Rattle.line.specs.Parlour.{stateLength, slotPlace, freshSlot, freshState};
 use image::Head;
+use image::LARGEST;
 use image::LONGEST;
 use image::bytes::wide;
-
-// n is that of a parlour.
-pub(crate) fn is_count(n: u8) -> bool
-    ensures { λ r. ⌜ r ≡ isCount n ⌝ }
-{
-    (2 <= n) & (n <= 8)
-}
-
-// A parlour of n heads has no such stall.
-pub(crate) fn bad_stall(n: u8, stall: u8) -> bool
-    ensures { λ r. ⌜ r ≡ badStall n stall ⌝ }
-{
-    !((1 <= stall) & (stall <= n))
-}
 
 // Where the slot of a stall starts.
 pub(crate) fn place_of(stall: u8) -> usize
     requires { ⌜ 1 ≤ stall ⌝ }
     ensures { λ r. ⌜ r ≡ slotPlace stall ⌝ }
 {
-    1 + (wide(stall) - 1) * 156
+    1 + (wide(stall) - 1) * LONGEST
 }
 
 // The bytes at a place, then zeros.
 pub(crate) fn image_at(state: &[u8], at: usize, count: usize) -> [u8; LONGEST]
-    requires { ⌜ (count ≤ slotLength) × (at + count ≤ length (now state)) ⌝ }
-    ensures { λ r. ⌜ r ≡ take count (drop at (now (state .entry))) ++ replicate (slotLength - count) 0 ⌝ }
+    requires { ⌜ (count ≤ longest) × (at + count ≤ length (now state)) ⌝ }
+    ensures { λ r. ⌜ r ≡ take count (drop at (now (state .entry))) ++ replicate (longest - count) 0 ⌝ }
 {
     let mut image = [0u8; LONGEST];
     let mut i = 0usize;
@@ -49,7 +35,7 @@ pub(crate) fn image_at(state: &[u8], at: usize, count: usize) -> [u8; LONGEST]
 
 // The first bytes of an image to a place.
 pub(crate) fn write_image(state: &mut [u8], at: usize, count: usize, image: [u8; LONGEST])
-    requires { ⌜ (count ≤ slotLength) × (at + count ≤ length (now state)) × (length image ≡ slotLength) ⌝ }
+    requires { ⌜ (count ≤ longest) × (at + count ≤ length (now state)) × (length image ≡ longest) ⌝ }
     ensures { λ r. ⌜ now (state .exit) ≡ take at (now (state .entry)) ++ take count image ++ drop (at + count) (now (state .entry)) ⌝ }
 {
     let mut i = 0usize;
@@ -78,9 +64,9 @@ fn open_slots(state: &mut [u8], n: u8)
 {
     let mut at = 1usize;
     let mut r = 0u8;
-    while r < 8 {
-        write_image(state, at, 156, fresh_slot(n, r + 1));
-        at += 156;
+    while r < LARGEST {
+        write_image(state, at, LONGEST, fresh_slot(n, r + 1));
+        at += LONGEST;
         r += 1;
     }
 }

@@ -8,10 +8,11 @@ use Rattle.causality.specs.Meetings.{Joins}
 use Rattle.causality.specs.Clock.{latest, latestIn, inPast}
 use Rattle.causality.proofs.Clocks.{latest-le, latestIn-le}
 use Rattle.image.specs.Layout.{largest}
-use Rattle.image.specs.Encode.{Table, encode, tableOf}
-use Rattle.image.proofs.Encoding.{nothing, current-encode}
+use Rattle.image.specs.Encode.{Table, nothing, encode, tableOf}
+use Rattle.image.specs.Fresh.{freshImage}
+use Rattle.image.proofs.Encoding.{current-encode}
 use Rattle.image.proofs.Accepted.{Accepted}
-use Rattle.image.proofs.FreshTable.{fresh-accepted, fresh-is-nothing}
+use Rattle.image.proofs.FreshTable.{fresh-accepted}
 use Rattle.head.proofs.Freshness.{fresh-zero}
 use Rattle.parlour.specs.Item.{Item}
 use Rattle.parlour.specs.History.{meetings, events, yieldAfter, yieldAt}
@@ -59,9 +60,9 @@ nothing-says n p =
     }
 
 pub fresh-kept : {n : ℕ} → 2 ≤ n → n ≤ largest → (buffers images : Images) → ((p : ℕ) → 1 ≤ p → p ≤ n → FreshCall (buffers p) n p 0 (images p)) → Kept n [] images
-unfolding nothing events yieldAfter meetings
+unfolding nothing freshImage events yieldAfter meetings
 fresh-kept {n} i j buffers images calls =
-    let is : (p : ℕ) → 1 ≤ p → p ≤ n → images p ≡ encode n p nothing = λ p k l. fresh-zero (buffers p) n p (images p) (calls p k l .learnt) ∙ fresh-is-nothing n p i j k l in
+    let is : (p : ℕ) → 1 ≤ p → p ≤ n → images p ≡ freshImage n p = λ p k l. fresh-zero (buffers p) n p (images p) (calls p k l .learnt) in
     record {
       n-from = i;
       n-to = j;

@@ -10,15 +10,14 @@ use Rattle.causality.specs.Meetings as Meetings
 use Rattle.labels.specs.Lowest.{elem, seek, lowestFree, keep}
 use Rattle.labels.specs.Label.{named as namedLabels, samePair, between, labelAt, current, labels, label}
 use Rattle.labels.specs.Name.{partnerOf}
-use Rattle.image.specs.Stalls.{each, bits}
-use Rattle.image.specs.Encode.{encode}
+use Rattle.image.specs.Examples.{evaluated as image-evaluated}
 use Rattle.parlour.specs.Item.{Item, milking, meeting, counts, history}
 use Rattle.parlour.specs.History.{meetings, events, yieldAfter, yieldAt}
 use Rattle.parlour.specs.Table.{nameIn, named, tableAt, tableAfter, imageAfter}
 
 -- whoever unfolds this unfolds all that a history is computed with
 unfoldable pub evaluated : Unit {0}
-unfolding takesPart last newest put maxima joined clocks latest latestIn inPast newer best upTo verdicts Meetings.meeting elem seek lowestFree keep namedLabels samePair between labelAt current labels label partnerOf each bits encode counts history meetings events yieldAfter yieldAt nameIn named tableAt tableAfter imageAfter flatMap
+unfolding takesPart last newest put maxima joined clocks latest latestIn inPast newer best upTo verdicts Meetings.meeting elem seek lowestFree keep namedLabels samePair between labelAt current labels label partnerOf image-evaluated counts history meetings events yieldAfter yieldAt nameIn named tableAt tableAfter imageAfter flatMap
 evaluated = tt
 
 -- the listing, newest first, with a milking and a meeting that do not count: the image of head 3

@@ -7,7 +7,7 @@ use native.Mathlib.Omega.{arith}
 use borrow.Author.Tests.{eq-eqb, eqb-true, eqb-false, le-leb, lt-ltb}
 use lib.Dec.{leb, eqb}
 use lib.ListN.{length, take, replicate, length-replicate}
-use Rattle.image.specs.Layout.{largest, yieldLimit}
+use Rattle.image.specs.Layout.{largest, yieldLimit, isCount}
 use Rattle.image.specs.Check.{badStall}
 use Rattle.image.proofs.Accepted.{checked-accepted}
 use Rattle.head.specs.Calls.{milkingCall}
@@ -15,7 +15,7 @@ use Rattle.head.specs.Heard.{HeardList}
 use Rattle.head.proofs.HeardLists.{heard-few}
 use Rattle.head.proofs.HeardCalls.{heard-accepted}
 use Rattle.merge.specs.Call.{meetingCall}
-use Rattle.line.specs.Parlour.{headsOf, isCount, imageOf, withImage, freshState}
+use Rattle.line.specs.Parlour.{headsOf, imageOf, withImage, freshState}
 use Rattle.line.specs.Answer.{Reply, refusal, answerBytes, opening, milkedBy, milking, meetingOf, meeting, showing, HeardAnswer as LineHeard, Replies}
 use Rattle.line.specs.declared.frame.Frame.{Frame}
 use Rattle.line.specs.declared.frame.Frame.the-variants.{Open, Milking, Meeting, Show, Heard, Bad}

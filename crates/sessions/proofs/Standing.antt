@@ -7,10 +7,10 @@ use native.Mathlib.Omega.{arith}
 use borrow.Author.Tests.{eq-eqb, ne-eqb, le-leb}
 use lib.Dec.{eqb}
 use lib.ListN.{length, replicate}
-use Rattle.image.specs.Layout.{largest, lengthOf}
+use Rattle.image.specs.Layout.{largest, lengthOf, longest}
 use Rattle.image.proofs.Accepted.{Accepted}
 use Rattle.image.proofs.Has.{length-each}
-use Rattle.line.specs.Parlour.{slotLength, stateLength, headsOf, imageOf, withImage, freshSlot, freshState}
+use Rattle.line.specs.Parlour.{stateLength, headsOf, imageOf, withImage, freshSlot, freshState}
 use Rattle.line.specs.Asked.{StallOf}
 use Rattle.line.proofs.Slots.{length-slot}
 use Rattle.line.proofs.Images.{opened-image, length-with, heads-with, image-same, image-other}
@@ -80,7 +80,7 @@ pub opened : (n : ℕ) → 2 ≤ n → n ≤ largest → Open [] (freshState n)
 unfolding freshState
 opened n i j =
     record {
-      long = omega (arith, length-each slotLength (freshSlot n) (λ r. length-slot n r i j) largest);
+      long = omega (arith, length-each longest (freshSlot n) (λ r. length-slot n r i j) largest);
       kept = fresh-kept i j (λ p. replicate (lengthOf n) 0) (imageOf (freshState n)) (λ p k l.
           subst (FreshCall (replicate (lengthOf n) 0) n p 0) (sym (opened-image n p i j (record { from = k; to = l }))) (fresh-call n p i j k l));
     }

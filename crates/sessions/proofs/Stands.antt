@@ -4,10 +4,11 @@ use mathlib.Core.Path.{_≡_, refl, sym, ap, subst, subst₂, _∙_}
 use mathlib.Core.Bool.{Bool, true, false, true≢false}
 use mathlib.Core.List.{List, [], _∷_, _++_}
 use lib.ListN.{length}
+use Rattle.image.specs.Layout.{isCount}
 use Rattle.parlour.specs.Item.{history}
 use Rattle.parlour.specs.Table.{imageAfter}
 use Rattle.line.specs.Frame.{frameOf}
-use Rattle.line.specs.Parlour.{stateLength, headsOf, isCount, isOpen, imageOf}
+use Rattle.line.specs.Parlour.{stateLength, headsOf, isOpen, imageOf}
 use Rattle.line.specs.Answer.{Reply, Replies}
 use Rattle.stream.specs.Stream.{emptyState}
 use Rattle.sessions.specs.Lines.{opens, heads, itemsOf, items, historyOf}

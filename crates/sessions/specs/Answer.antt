@@ -7,13 +7,12 @@ use lib.Dec.{leb, eqb}
 use lib.ListN.{take, replicate}
 use Rattle.causality.specs.Best.{verdicts}
 use Rattle.labels.specs.Label.{label}
-use Rattle.image.specs.Layout.{yieldLimit}
+use Rattle.image.specs.Layout.{yieldLimit, isCount}
 use Rattle.image.specs.Check.{badStall}
 use Rattle.head.specs.Heard.{HeardList}
 use Rattle.parlour.specs.Item.{Item, meeting}
 use Rattle.parlour.specs.History.{meetings, events}
 use Rattle.parlour.specs.Table.{imageAfter}
-use Rattle.line.specs.Parlour.{isCount}
 use Rattle.line.specs.declared.frame.Frame.{Frame}
 use Rattle.line.specs.declared.frame.Frame.the-variants.{Open, Milking, Meeting, Show, Heard, Bad}
 

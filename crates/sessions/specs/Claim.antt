@@ -4,9 +4,10 @@ use mathlib.Core.Path.{_≡_}
 use mathlib.Core.Bool.{true}
 use mathlib.Core.List.{List, _∷_, _++_, map}
 use lib.ListN.{length}
+use Rattle.image.specs.Layout.{isCount}
 use Rattle.parlour.specs.Table.{imageAfter}
 use Rattle.line.specs.Frame.{frameOf}
-use Rattle.line.specs.Parlour.{isCount, imageOf}
+use Rattle.line.specs.Parlour.{imageOf}
 use Rattle.line.specs.Answer.{written}
 use Rattle.sessions.specs.Lines.{heads, historyOf}
 use Rattle.sessions.specs.Answer.{Answer}

@@ -4,9 +4,9 @@ use mathlib.Core.Bool.{_||_, cond}
 use mathlib.Core.List.{List, [], _∷_, _++_}
 use lib.Dec.{eqb}
 use lib.ListN.{replicate}
+use Rattle.image.specs.Layout.{isCount}
 use Rattle.image.specs.Check.{badStall}
 use Rattle.line.specs.Frame.{frameOf}
-use Rattle.line.specs.Parlour.{isCount}
 use Rattle.line.specs.declared.frame.Frame.{Frame}
 use Rattle.line.specs.declared.frame.Frame.the-variants.{Open, Milking, Meeting, Show, Heard, Bad}
 use Rattle.parlour.specs.Item.{Item, milking, meeting, history}

@@ -25,12 +25,12 @@ count-within {state} {line} {out} {count} {state′} {out′} w e = go (eqb (len
     go true v = omega (arith, v .given .counted, ap length (v .given .out-is), length-written out (v .reply .bytes))
     go false v = omega (arith, v .0)
 
--- a part of 314 bytes is one
-pub part-room : (out : List ℕ) (at : ℕ) → at + room ≤ length out → length (take (at + 314 - at) (drop at out)) ≡ 314
-part-room out at l = length-take-le (at + 314 - at) (drop at out) (omega (arith, length-drop at out)) ∙ omega arith
+-- a part as long as the longest answer is one
+pub part-room : (out : List ℕ) (at : ℕ) → at + room ≤ length out → length (take (at + longestAnswer - at) (drop at out)) ≡ longestAnswer
+part-room out at l = length-take-le (at + longestAnswer - at) (drop at out) (omega (arith, length-drop at out)) ∙ omega arith
 
 -- and as long as before
-pub length-put : (out x : List ℕ) (at : ℕ) → at + room ≤ length out → length x ≡ 314 → length (take at out ++ (x ++ drop (at + 314 - at) (drop at out))) ≡ length out
+pub length-put : (out x : List ℕ) (at : ℕ) → at + room ≤ length out → length x ≡ longestAnswer → length (take at out ++ (x ++ drop (at + longestAnswer - at) (drop at out))) ≡ length out
 length-put out x at l e =
-    length-append (take at out) (x ++ drop (at + 314 - at) (drop at out))
-    ∙ omega (arith, length-take-le at out (omega arith), length-append x (drop (at + 314 - at) (drop at out)), length-drop (at + 314 - at) (drop at out), length-drop at out)
+    length-append (take at out) (x ++ drop (at + longestAnswer - at) (drop at out))
+    ∙ omega (arith, length-take-le at out (omega arith), length-append x (drop (at + longestAnswer - at) (drop at out)), length-drop (at + longestAnswer - at) (drop at out), length-drop at out)

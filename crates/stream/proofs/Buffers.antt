@@ -30,9 +30,9 @@ store-next d p i v e l =
 
 -- a line's answer in the part that it is lent, and a newline behind it
 module _ (state text out x state′ : List ℕ) (at r : ℕ) (long : length state ≡ stateLength) (fits : at + room ≤ length out)
-    (call : AnswerCall state text (take (at + 314 - at) (drop at out)) r state′ x) where
+    (call : AnswerCall state text (take (at + longestAnswer - at) (drop at out)) r state′ x) where
   abbrev part : List ℕ
-  part = take (at + 314 - at) (drop at out)
+  part = take (at + longestAnswer - at) (drop at out)
 
   replied : Replied state part (isOpen state) (frameOf text) r state′ x
   replied =
@@ -40,32 +40,32 @@ module _ (state text out x state′ : List ℕ) (at r : ℕ) (long : length stat
       (ap₂ _&&_ (eq-eqb (length state) stateLength long) (le-leb longestAnswer (length part) (omega (arith, part-room out at fits))))
       (call .answer)
 
-  module _ (bytes : List ℕ) (counted : r ≡ 2 * length bytes) (less : r ≤ 314) (x-is : x ≡ written part bytes) where
+  module _ (bytes : List ℕ) (counted : r ≡ 2 * length bytes) (less : r ≤ longestAnswer) (x-is : x ≡ written part bytes) where
     -- the part and what follows it
-    onward : drop r part ++ drop (at + 314 - at) (drop at out) ≡ drop (at + r) out
+    onward : drop r part ++ drop (at + longestAnswer - at) (drop at out) ≡ drop (at + r) out
     onward =
-        sym (drop-append-le r part (drop (at + 314 - at) (drop at out)) (omega (arith, part-room out at fits)))
-        ∙ ap (drop r) (take-append-drop (at + 314 - at) (drop at out))
+        sym (drop-append-le r part (drop (at + longestAnswer - at) (drop at out)) (omega (arith, part-room out at fits)))
+        ∙ ap (drop r) (take-append-drop (at + longestAnswer - at) (drop at out))
         ∙ drop-drop r at out
 
-    put : take at out ++ (x ++ drop (at + 314 - at) (drop at out)) ≡ (take at out ++ digitsOf bytes) ++ drop (at + r) out
+    put : take at out ++ (x ++ drop (at + longestAnswer - at) (drop at out)) ≡ (take at out ++ digitsOf bytes) ++ drop (at + r) out
     unfolding written
     put =
-        ap (λ y. take at out ++ (y ++ drop (at + 314 - at) (drop at out))) (x-is ∙ ap (λ k. digitsOf bytes ++ drop k part) (sym counted))
-        ∙ ap (λ y. take at out ++ y) (append-assoc (digitsOf bytes) (drop r part) (drop (at + 314 - at) (drop at out)) ∙ ap (λ y. digitsOf bytes ++ y) onward)
+        ap (λ y. take at out ++ (y ++ drop (at + longestAnswer - at) (drop at out))) (x-is ∙ ap (λ k. digitsOf bytes ++ drop k part) (sym counted))
+        ∙ ap (λ y. take at out ++ y) (append-assoc (digitsOf bytes) (drop r part) (drop (at + longestAnswer - at) (drop at out)) ∙ ap (λ y. digitsOf bytes ++ y) onward)
         ∙ sym (append-assoc (take at out) (digitsOf bytes) (drop (at + r) out))
 
     front : length (take at out ++ digitsOf bytes) ≡ at + r
     front = length-append (take at out) (digitsOf bytes) ∙ omega (arith, length-take-le at out (omega arith), length-digits bytes)
 
-    pub with-newline : set (take at out ++ (x ++ drop (at + 314 - at) (drop at out))) (at + r) newline
+    pub with-newline : set (take at out ++ (x ++ drop (at + longestAnswer - at) (drop at out))) (at + r) newline
         ≡ take at out ++ (digitsOf bytes ++ (newline ∷ [])) ++ drop (at + r + 1) out
     with-newline =
         ap (λ y. set y (at + r) newline) put
         ∙ store-next out (take at out ++ digitsOf bytes) (at + r) newline front (omega arith)
         ∙ ap (λ y. y ++ drop (at + r + 1) out) (append-assoc (take at out) (digitsOf bytes) (newline ∷ []))
 
-  pub line-answered : r ≤ 314 → LineAnswered state text out at (at + r + 1) state′ (set (take at out ++ (x ++ drop (at + 314 - at) (drop at out))) (at + r) newline)
+  pub line-answered : r ≤ longestAnswer → LineAnswered state text out at (at + r + 1) state′ (set (take at out ++ (x ++ drop (at + longestAnswer - at) (drop at out))) (at + r) newline)
   line-answered less =
       let bytes = replied .reply .bytes in
       record {

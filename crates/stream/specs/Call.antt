@@ -7,14 +7,14 @@ use lib.Dec.{leb, eqb}
 use lib.ListN.{length, take, drop}
 use Rattle.line.specs.Frame.{frameOf}
 use Rattle.line.specs.Parlour.{stateLength, isOpen}
-use Rattle.line.specs.Answer.{Reply, Replies}
+use Rattle.line.specs.Answer.{Reply, Replies, longestAnswer}
 use Rattle.stream.specs.Stream.{answerTo, Stream, Last}
 use Rattle.stream.specs.Kept.{longestLine, Kept, keptLine, keptAfter}
 use Rattle.stream.specs.declared.Fed.{Fed}
 
 -- the longest answer and a newline
 abbrev pub room : ℕ
-room = 315
+room = longestAnswer + 1
 
 -- the runs have the lengths that are asked for, and no more of the line is kept than there is room for
 unfoldable pub isReady : List ℕ → List ℕ → ℕ → List ℕ → Bool

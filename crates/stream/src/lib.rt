@@ -6,6 +6,14 @@ ghost use lib.ListN.{length, take};
 ghost use Rattle.line.specs.Parlour.{stateLength};
 ghost use Rattle.stream.specs.Kept.{longestLine, Kept, withByte};
 ghost use Rattle.stream.specs.Call.{room, isReady, Ready, LineAnswered, Answers, keeping, Taken, FeedCall, LastAnswers, FinishCall};
+use line::ANSWER;
+use line::STATE;
+
+// How many bytes of a line are kept: no frame has more than 8 digits, so 9 bytes tell as much as the whole line.
+pub const LINE: usize = 9;
+
+// The longest answer and a newline.
+pub const ROOM: usize = ANSWER + 1;
 
 // How many bytes of the line so far are kept, and where the answers end.
 struct Place {
@@ -24,15 +32,15 @@ pub struct Fed {
 fn is_ready(state: &[u8], text: &[u8], kept: usize, out: &[u8]) -> bool
     ensures { λ r. ⌜ r ≡ isReady (now (state .entry)) (now (text .entry)) kept (now (out .entry)) ⌝ }
 {
-    (state.len() == 1249) & (text.len() == 9) & (kept <= 9) & (315 <= out.len())
+    (state.len() == STATE) & (text.len() == LINE) & (kept <= LINE) & (ROOM <= out.len())
 }
 
-// One byte more of a line. No frame has more than 8 digits, so 9 bytes tell as much as the whole line.
+// One byte more of a line.
 fn keep(text: &mut [u8], kept: usize, byte: u8) -> usize
     requires { ⌜ length (now text) ≡ longestLine ⌝ }
     ensures { λ r. ⌜ keeping (now (text .exit)) r ≡ withByte (keeping (now (text .entry)) kept) byte ⌝ }
 {
-    if kept < 9 {
+    if kept < LINE {
         text[kept] = byte;
         return kept + 1;
     }
@@ -46,7 +54,7 @@ fn answer_line(state: &mut [u8], text: &[u8], out: &mut [u8], at: usize) -> usiz
         ⌜ (r ≤ at + room)
         × LineAnswered (now (state .entry)) (now (text .entry)) (now (out .entry)) at r (now (state .exit)) (now (out .exit)) ⌝ }
 {
-    let end = at + 314;
+    let end = at + ANSWER;
     let count = line::answer(state, text, &mut out[at..end]);
     let next = at + count;
     out[next] = b'\n';
@@ -88,7 +96,7 @@ fn feed_all(state: &mut [u8], text: &mut [u8], kept: usize, block: &[u8], out: &
     let mut held = kept;
     let mut end = 0usize;
     while taken < block.len() {
-        if out.len() - end < 315 {
+        if out.len() - end < ROOM {
             return Fed {
                 taken,
                 kept: held,
@@ -108,7 +116,7 @@ fn feed_all(state: &mut [u8], text: &mut [u8], kept: usize, block: &[u8], out: &
 }
 
 // Answers the lines that the front of a block ends, at the front of out; the line so far goes on in text. Where the runs have not
-// 1249, 9 and at least 315 bytes, or more than 9 are said to be kept, it takes nothing.
+// STATE, LINE and at least ROOM bytes, or more than LINE are said to be kept, it takes nothing.
 pub fn feed(state: &mut [u8], text: &mut [u8], kept: usize, block: &[u8], out: &mut [u8]) -> Fed
     ensures { λ r.
         ⌜ FeedCall (now (state .entry)) (now (text .entry)) kept (now (block .entry)) (now (out .entry)) r (now (state .exit)) (now (text .exit)) (now (out .exit)) ⌝ }

@@ -124,8 +124,8 @@ fn run(state: &mut [u8], text: &mut [u8], input: &mut [u8], out: &mut [u8]) -> T
 }
 
 fn main() {
-    let mut state = [0u8; 1249];
-    let mut text = [0u8; 9];
+    let mut state = [0u8; line::STATE];
+    let mut text = [0u8; stream::LINE];
     let mut input = [0u8; 65536];
     let mut out = [0u8; 65536];
     run(&mut state, &mut text, &mut input, &mut out);

@@ -3,6 +3,7 @@ use Prim.Native.Nat.{_+_, _-_, _≤_}
 use mathlib.Core.Path.{_≡_, refl, _∙_}
 use lib.ListN.{length, take}
 use native.Mathlib.Omega.{arith}
+use Rattle.line.specs.Answer.{longestAnswer}
 use Rattle.stream.specs.Kept.{longestLine}
 use Rattle.stream.specs.Call.{keeping, Answers}
 use Rattle.stream.proofs.Buffers.{answers-start, answers-next}
@@ -10,7 +11,7 @@ use Rattle.stream.proofs.feed_all.Statement.{statement}
 use Rattle.stream.proofs.feed_all.Tie as tie
 
 abbrev Inv-loop : tie.InvT-loop
-Inv-loop state₀ text₀ kept block out₀ taken₀ held₀ end₀ state text out taken held end = (taken ≤ length block) × (held ≤ longestLine) × (end ≤ length out₀) × (length state ≡ length state₀) × (length text ≡ length text₀) × (length out ≡ length out₀) × (1 ≤ taken + (length out₀ - end - 314)) × Answers state₀ (keeping text₀ kept) (take taken block) out₀ 0 end state (keeping text held) out
+Inv-loop state₀ text₀ kept block out₀ taken₀ held₀ end₀ state text out taken held end = (taken ≤ length block) × (held ≤ longestLine) × (end ≤ length out₀) × (length state ≡ length state₀) × (length text ≡ length text₀) × (length out ≡ length out₀) × (1 ≤ taken + (length out₀ - end - longestAnswer)) × Answers state₀ (keeping text₀ kept) (take taken block) out₀ 0 end state (keeping text held) out
 
 abbrev μ-loop : tie.MeasureT-loop
 μ-loop state₀ text₀ kept block out₀ taken₀ held₀ end₀ state text out taken held end = length block - taken
