@@ -1,9 +1,8 @@
-/* Times wilbryn_check and wilbryn_meeting against the plain versions on the same images, and
-   measures the stack that they touch. */
+/* Times the check and the meeting of wilbryn.h against the plain and the expert version on the same
+   images, and measures the stack that they touch. */
 #define _XOPEN_SOURCE 700
 #include "wilbryn.h"
 
-#include <stdbool.h>
 #include <stdio.h>
 #include <stdlib.h>
 #include <string.h>
@@ -12,11 +11,23 @@
 
 extern __typeof__(wilbryn_fresh) plain_fresh;
 extern __typeof__(wilbryn_milking) plain_milking;
-extern __typeof__(wilbryn_check) plain_check;
-extern __typeof__(wilbryn_meeting) plain_meeting;
+extern __typeof__(wilbryn_check) plain_check, expert_check;
+extern __typeof__(wilbryn_meeting) plain_meeting, expert_meeting;
+
+enum { PLAIN, EXPERT, WILBRYN, VERSIONS };
+
+static const struct version {
+    const char *name;
+    __typeof__(wilbryn_check) *check;
+    __typeof__(wilbryn_meeting) *meeting;
+} versions[VERSIONS] = {
+    [PLAIN] = {"plain", plain_check, plain_meeting},
+    [EXPERT] = {"expert", expert_check, expert_meeting},
+    [WILBRYN] = {"wilbryn", wilbryn_check, wilbryn_meeting},
+};
 
 enum { PAIRS = 256, REPEATS = 8, WARM_UP = 4, ROUNDS = 61, STACK = 1 << 17 };
-enum { LONGEST = WILBRYN_IMAGE_LENGTH(8) };
+enum { MOST = 8, LONGEST = WILBRYN_IMAGE_LENGTH(MOST) };
 
 static uint64_t seed = 0x5eed0008;
 
@@ -27,15 +38,16 @@ static unsigned below(unsigned limit) {
     return (unsigned)(seed % limit);
 }
 
-/* The images that the calls get, for each N: two heads of one parlour just before a meeting. */
-static struct pair {
-    uint8_t first[LONGEST], second[LONGEST];
-} pairs_of[9][PAIRS], work;
-static uint8_t verdicts[8];
+/* What the calls are lent, for each N: two heads of one parlour just before a meeting, and a buffer
+   in which no verdict stands. */
+static struct lent {
+    uint8_t first[LONGEST], second[LONGEST], verdicts[MOST];
+} pairs_of[MOST + 1][PAIRS], work;
 
-/* The N at work, its image length and its pairs. */
+/* The version at work; the N at work, its image length and its pairs. */
+static const struct version *version;
 static size_t n, len;
-static struct pair *pairs;
+static struct lent *pairs;
 
 static void work_on(size_t size) {
     n = size;
@@ -44,34 +56,32 @@ static void work_on(size_t size) {
 }
 
 /* Each pair comes from a list of its own, of 20 to 200 meetings with milkings between. */
-static void make_pair(struct pair *pair) {
-    uint8_t images[8][LONGEST];
+static void make_pair(struct lent *pair) {
+    uint8_t images[MOST][LONGEST];
     for (uint8_t r = 0; r < n; r++) plain_fresh(images[r], len, (uint8_t)n, r + 1);
     for (unsigned left = 20 + below(181); left > 0; left--) {
         unsigned a = below((unsigned)n), b = (a + 1 + below((unsigned)n - 1)) % (unsigned)n;
         plain_milking(images[below((unsigned)n)], len, (uint16_t)below(1000));
         memcpy(pair->first, images[a], len);
         memcpy(pair->second, images[b], len);
-        plain_meeting(images[a], len, images[b], len, verdicts, n);
+        plain_meeting(images[a], len, images[b], len, pair->verdicts, n);
     }
+    memset(pair->verdicts, 0xee, sizeof pair->verdicts);
 }
 
-/* A way to make a call on the pair in work: nothing (the copying alone), plain, wilbryn. */
+/* A call on what lies in work, or nothing (the copying alone). */
 typedef uint32_t call(void);
 
 static uint32_t nothing(void) { return 0; }
-static uint32_t check_plain(void) { return plain_check(work.first, len); }
-static uint32_t check_wilbryn(void) { return wilbryn_check(work.first, len); }
-static uint32_t meeting_plain(void) {
-    return plain_meeting(work.first, len, work.second, len, verdicts, n);
-}
-static uint32_t meeting_wilbryn(void) {
-    return wilbryn_meeting(work.first, len, work.second, len, verdicts, n);
+static uint32_t check(void) { return version->check(work.first, len); }
+static uint32_t meeting(void) {
+    return version->meeting(work.first, len, work.second, len, work.verdicts, n);
 }
 
-static void lay_out(const struct pair *pair) {
+static void lay_out(const struct lent *pair) {
     memcpy(work.first, pair->first, len);
     memcpy(work.second, pair->second, len);
+    memcpy(work.verdicts, pair->verdicts, sizeof work.verdicts);
 }
 
 /* Nanoseconds a call, over all pairs. */
@@ -98,10 +108,12 @@ static int by_size(const void *a, const void *b) {
     return (x > y) - (x < y);
 }
 
-/* The value below which this part of the sorted values lies. */
-static double quantile(double *values, double part) {
-    qsort(values, ROUNDS, sizeof *values, by_size);
-    return values[(int)(part * (ROUNDS - 1))];
+/* The value below which this part of the values lies. */
+static double quantile(const double *values, double part) {
+    double sorted[ROUNDS];
+    memcpy(sorted, values, sizeof sorted);
+    qsort(sorted, ROUNDS, sizeof *sorted, by_size);
+    return sorted[(int)(part * (ROUNDS - 1))];
 }
 
 /* The stack of a call: it runs on a painted stack of its own, and the lowest byte that lost its
@@ -145,84 +157,99 @@ static size_t stack_of(call *call) {
     return most;
 }
 
-/* Both must do the same, or the times mean nothing. Neither finds the verdicts of the other. */
-static void expect_same(call *plain, call *wilbryn) {
+/* All must do the same, or the times mean nothing. */
+static void expect_same(call *call) {
     for (int i = 0; i < PAIRS; i++) {
-        uint8_t plain_verdicts[8];
-        lay_out(&pairs[i]);
-        memset(verdicts, 0xee, n);
-        uint32_t answer = plain();
-        struct pair after = work;
-        memcpy(plain_verdicts, verdicts, n);
-        lay_out(&pairs[i]);
-        memset(verdicts, 0xee, n);
-        bool same = wilbryn() == answer && memcmp(&after, &work, sizeof work) == 0;
-        if (!same || memcmp(plain_verdicts, verdicts, n) != 0) {
-            printf("N = %zu: plain and wilbryn differ\n", n);
-            exit(1);
+        uint32_t answers[VERSIONS];
+        struct lent after[VERSIONS];
+        for (int v = 0; v < VERSIONS; v++) {
+            version = &versions[v];
+            lay_out(&pairs[i]);
+            answers[v] = call();
+            after[v] = work;
+            if (answers[v] != answers[0] || memcmp(&after[v], &after[0], sizeof work) != 0) {
+                printf("N = %zu: %s and %s differ\n", n, versions[0].name, version->name);
+                exit(1);
+            }
         }
     }
 }
 
 /* The times of one N, round by round. */
 static struct times {
-    double copying[ROUNDS], plain[ROUNDS], wilbryn[ROUNDS];
-} times_of[9];
+    double copying[ROUNDS], of[VERSIONS][ROUNDS];
+} times_of[MOST + 1];
 
-static void time_round(struct times *times, int round, call *plain, call *wilbryn) {
+/* The versions take turns at coming first. */
+static void time_round(struct times *times, int round, call *call) {
     times->copying[round] = time_of(nothing);
-    if (round % 2 == 0) times->plain[round] = time_of(plain);
-    times->wilbryn[round] = time_of(wilbryn);
-    if (round % 2 == 1) times->plain[round] = time_of(plain);
+    for (int turn = 0; turn < VERSIONS; turn++) {
+        int v = (round + turn) % VERSIONS;
+        version = &versions[v];
+        times->of[v][round] = time_of(call);
+    }
 }
 
 /* Rounds go through all N, so that a slow spell of the machine meets all alike. */
-static void time_all(call *plain, call *wilbryn) {
+static void time_all(call *call) {
     for (int round = -WARM_UP; round < ROUNDS; round++) {
-        for (size_t size = 2; size <= 8; size++) {
+        for (size_t size = 2; size <= MOST; size++) {
             work_on(size);
-            time_round(&times_of[size], round < 0 ? 0 : round, plain, wilbryn);
+            time_round(&times_of[size], round < 0 ? 0 : round, call);
         }
     }
 }
 
-static void print_row(call *plain, call *wilbryn) {
-    static double plain_of_2, wilbryn_of_2;
-    struct times *times = &times_of[n];
-    double copying = quantile(times->copying, 0.5), ratios[ROUNDS];
-    for (int i = 0; i < ROUNDS; i++) {
-        ratios[i] = (times->wilbryn[i] - copying) / (times->plain[i] - copying);
-    }
-    double plain_ns = quantile(times->plain, 0.5) - copying;
-    double wilbryn_ns = quantile(times->wilbryn, 0.5) - copying;
-    if (n == 2) plain_of_2 = plain_ns, wilbryn_of_2 = wilbryn_ns;
-    printf("%3zu %9.1f %8.1f %8.2f %6.2f to %5.2f %9.2f %8.2f %8zu %8zu\n", n, plain_ns, wilbryn_ns,
-           quantile(ratios, 0.5), quantile(ratios, 0.25), quantile(ratios, 0.75),
-           plain_ns / plain_of_2, wilbryn_ns / wilbryn_of_2, stack_of(plain), stack_of(wilbryn));
+static double median(size_t size, int v) {
+    return quantile(times_of[size].of[v], 0.5) - quantile(times_of[size].copying, 0.5);
 }
 
-static void compare(const char *what, call *plain, call *wilbryn) {
-    printf("%s: medians of %d interleaved rounds, the copying of the images taken off\n"
-           "          ns a call        wilbryn / plain      times N = 2       bytes of stack\n"
-           "  N     plain  wilbryn   ratio   quartiles      plain  wilbryn    plain  wilbryn\n",
-           what, ROUNDS);
-    for (size_t size = 2; size <= 8; size++) {
-        work_on(size);
-        expect_same(plain, wilbryn);
+/* Of wilbryn to another version, round by round. */
+static void print_ratio(const struct times *times, int other) {
+    double copying = quantile(times->copying, 0.5), ratios[ROUNDS];
+    for (int i = 0; i < ROUNDS; i++) {
+        ratios[i] = (times->of[WILBRYN][i] - copying) / (times->of[other][i] - copying);
     }
-    time_all(plain, wilbryn);
-    for (size_t size = 2; size <= 8; size++) {
+    printf("%8.2f %6.2f to %5.2f", quantile(ratios, 0.5), quantile(ratios, 0.25),
+           quantile(ratios, 0.75));
+}
+
+static void print_row(call *call) {
+    printf("%3zu", n);
+    for (int v = 0; v < VERSIONS; v++) printf("%8.1f", median(n, v));
+    for (int v = 0; v < WILBRYN; v++) print_ratio(&times_of[n], v);
+    for (int v = 0; v < VERSIONS; v++) printf("%8.2f", median(n, v) / median(2, v));
+    for (int v = 0; v < VERSIONS; v++) {
+        version = &versions[v];
+        printf("%8zu", stack_of(call));
+    }
+    printf("\n");
+}
+
+static void compare(const char *what, call *call) {
+    printf("%s: medians of %d interleaved rounds, the copying of the images taken off\n"
+           "            ns a call           wilbryn / plain         wilbryn / expert"
+           "            times N = 2           bytes of stack\n"
+           "  N   plain  expert wilbryn   ratio    quartiles       ratio    quartiles   "
+           "   plain  expert wilbryn   plain  expert wilbryn\n",
+           what, ROUNDS);
+    for (size_t size = 2; size <= MOST; size++) {
         work_on(size);
-        print_row(plain, wilbryn);
+        expect_same(call);
+    }
+    time_all(call);
+    for (size_t size = 2; size <= MOST; size++) {
+        work_on(size);
+        print_row(call);
     }
 }
 
 int main(void) {
-    for (size_t size = 2; size <= 8; size++) {
+    for (size_t size = 2; size <= MOST; size++) {
         work_on(size);
         for (int i = 0; i < PAIRS; i++) make_pair(&pairs[i]);
     }
-    compare("check", check_plain, check_wilbryn);
-    compare("meeting", meeting_plain, meeting_wilbryn);
+    compare("check", check);
+    compare("meeting", meeting);
     return 0;
 }
