@@ -8,43 +8,46 @@ use lib.Bits.{bitOr}
 use Rattle.image.specs.Stalls.{some}
 use Rattle.image.specs.Layout.{labelLimit}
 use Rattle.image.specs.Encode.{Table}
-use Rattle.merge.specs.Label.{rowHas, lowestFrom, labelUsed, newLabel}
+use Rattle.merge.specs.Label.{rowHas, lowestFrom, labelUsed, pairNames, newLabel}
 use Rattle.merge.specs.LabelSet.{labelSet, hasLabel}
 use Rattle.merge.proofs.LabelSets.{has-label, set-or}
 use Rattle.merge.proofs.Lowest.{lowest-to, lowest-below, lowest-stops, lowest-is, lowest-agree}
 use Rattle.merge.proofs.Counting.{not-all-used}
 
 module _ (n p : ℕ) (a : Table) (q : ℕ) (b : Table) where
-  pub newLabel-limit : newLabel n p a q b ≤ labelLimit n
+  newLabel-most : newLabel n p a q b ≤ pairNames n
   unfolding newLabel
-  newLabel-limit = omega (arith, lowest-to (labelLimit n) 0 (labelUsed n p a q b))
+  newLabel-most = omega (arith, lowest-to (pairNames n) 0 (labelUsed n p a q b))
+
+  pub newLabel-limit : newLabel n p a q b ≤ labelLimit n
+  newLabel-limit = omega (arith, newLabel-most)
 
   pub newLabel-lowest : (k : ℕ) → k < newLabel n p a q b → labelUsed n p a q b k ≡ true
   unfolding newLabel
-  newLabel-lowest k l = lowest-below (labelLimit n) 0 (labelUsed n p a q b) k (omega arith) l
+  newLabel-lowest k l = lowest-below (pairNames n) 0 (labelUsed n p a q b) k (omega arith) l
 
-  newLabel-stops : newLabel n p a q b < labelLimit n → labelUsed n p a q b (newLabel n p a q b) ≡ false
+  newLabel-stops : newLabel n p a q b < pairNames n → labelUsed n p a q b (newLabel n p a q b) ≡ false
   unfolding newLabel
-  newLabel-stops l = lowest-stops (labelLimit n) 0 (labelUsed n p a q b) (omega arith)
+  newLabel-stops l = lowest-stops (pairNames n) 0 (labelUsed n p a q b) (omega arith)
 
   pub newLabel-free : labelUsed n p a q b (newLabel n p a q b) ≡ false
   newLabel-free = go (labelUsed n p a q b (newLabel n p a q b)) refl
     where
       go : (t : Bool) → labelUsed n p a q b (newLabel n p a q b) ≡ t → t ≡ false
       go false e = refl
-      go true e = elim (decLt (newLabel n p a q b) (labelLimit n)) [
+      go true e = elim (decLt (newLabel n p a q b) (pairNames n)) [
         | yes l ↦ sym e ∙ newLabel-stops l
         | no l ↦ absurd (not-all-used n p a q b (λ k m. elim (decLt k (newLabel n p a q b)) [
           | yes i ↦ newLabel-lowest k i
-          | no i ↦ let d : k ≡ newLabel n p a q b = omega (arith, newLabel-limit) in ap (labelUsed n p a q b) d ∙ e
+          | no i ↦ let d : k ≡ newLabel n p a q b = omega (arith, newLabel-most) in ap (labelUsed n p a q b) d ∙ e
         ]))
       ]
 
-  -- turns past the limit find the same
-  pub newLabel-is : (t : ℕ) (u : ℕ → Bool) → labelLimit n < t → ((k : ℕ) → k < t → u k ≡ labelUsed n p a q b k) → lowestFrom t 0 u ≡ newLabel n p a q b
+  -- more turns find the same
+  pub newLabel-is : (t : ℕ) (u : ℕ → Bool) → pairNames n < t → ((k : ℕ) → k < t → u k ≡ labelUsed n p a q b k) → lowestFrom t 0 u ≡ newLabel n p a q b
   newLabel-is t u l e =
       lowest-agree t 0 u (labelUsed n p a q b) (λ j i m. e j (omega arith))
-      ∙ lowest-is t 0 (newLabel n p a q b) (labelUsed n p a q b) (omega arith) (omega (arith, newLabel-limit)) (λ j i m. newLabel-lowest j m) newLabel-free
+      ∙ lowest-is t 0 (newLabel n p a q b) (labelUsed n p a q b) (omega arith) (omega (arith, newLabel-most)) (λ j i m. newLabel-lowest j m) newLabel-free
 
 -- the labels of both tables
 shuffle : (a b c d : Bool) → ((a || b) || (c || d)) ≡ ((a || c) || (b || d))
@@ -58,7 +61,7 @@ unfolding some
 some-or zero f g = refl
 some-or (suc n) f g = shuffle (f (suc n)) (some n f) (g (suc n)) (some n g) ∙ ap (λ b. (f (suc n) || g (suc n)) || b) (some-or n f g)
 
-pub label-chosen : (n p : ℕ) (a : Table) (q : ℕ) (b : Table) → labelLimit n < 64
+pub label-chosen : (n p : ℕ) (a : Table) (q : ℕ) (b : Table) → pairNames n < 64
     → lowestFrom 64 0 (hasLabel (bitOr (labelSet (λ k. some n (rowHas p q a k))) (labelSet (λ k. some n (rowHas p q b k))))) ≡ newLabel n p a q b
 unfolding labelUsed
 label-chosen n p a q b l =

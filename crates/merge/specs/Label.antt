@@ -1,10 +1,9 @@
 -- The label of the meeting.
 -- Document 01: "The label is the lowest that no name of this pair has in any row of either image."
-use Prim.Native.Nat.{ℕ, zero, suc}
+use Prim.Native.Nat.{ℕ, zero, suc, _*_}
 use mathlib.Core.Bool.{Bool, false, _&&_, _||_, cond}
 use lib.Dec.{eqb}
 use Rattle.image.specs.Stalls.{some}
-use Rattle.image.specs.Layout.{labelLimit}
 use Rattle.image.specs.Encode.{Table}
 use Rattle.image.specs.declared.Name.{Name}
 use Rattle.image.specs.declared.Name.the-variants.{Never, With}
@@ -27,6 +26,9 @@ unfoldable pub lowestFrom : ℕ → ℕ → (ℕ → Bool) → ℕ
 lowestFrom zero k used = k
 lowestFrom (suc turns) k used = let next = lowestFrom turns (suc k) used in cond (used k) next k
 
--- labels run from 0 to the limit, and that many turns are enough
+-- "At most 4 × N names lie in the pair's two columns, so one is always there.": so many turns are enough
+abbrev pub pairNames : ℕ → ℕ
+pairNames n = 4 * n
+
 unfoldable pub newLabel : ℕ → ℕ → Table → ℕ → Table → ℕ
-newLabel n p a q b = lowestFrom (labelLimit n) 0 (labelUsed n p a q b)
+newLabel n p a q b = lowestFrom (pairNames n) 0 (labelUsed n p a q b)
