@@ -34,13 +34,6 @@ labelLimit n = 4 * n
 abbrev pub noYield : ℕ
 noYield = 0
 
--- the bytes of a row of names of so many, and of their image
-abbrev pub longestRow : ℕ
-longestRow = largest * 2
-
-abbrev pub longest : ℕ
-longest = 156
-
 -- "Length 2 × N × N + 3 × N + 4", for 2 to 8 heads; 0 for any other number
 abbrev pub lengthOf : ℕ → ℕ
 lengthOf n = cond (isCount n) (2 * n * n + 3 * n + 4) 0
@@ -58,6 +51,13 @@ ordersPlace n = yieldsPlace n + n * 2
 
 abbrev pub imageLength : ℕ → ℕ
 imageLength n = ordersPlace n + n
+
+-- the bytes of a row of the largest parlour, and of its image
+abbrev pub longestRow : ℕ
+longestRow = largest * 2
+
+abbrev pub longest : ℕ
+longest = imageLength largest
 
 -- where a row, a name in it, a yield and an order byte start
 abbrev pub rowPlace : ℕ → ℕ → ℕ

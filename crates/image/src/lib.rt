@@ -17,7 +17,7 @@ pub const STALLS: usize = LARGEST as usize;
 
 pub const ROW: usize = 2 * STALLS;
 
-pub const LONGEST: usize = 156;
+pub const LONGEST: usize = 4 + 2 * STALLS * STALLS + 3 * STALLS;
 
 // The meeting with a partner that has a label.
 pub struct Meet {
