@@ -52,6 +52,13 @@ ordersPlace n = yieldsPlace n + n * 2
 abbrev pub imageLength : ℕ → ℕ
 imageLength n = ordersPlace n + n
 
+-- where they start in an image of this length, counted from its end: so the code needs no product
+abbrev pub ordersFrom : ℕ → ℕ → ℕ
+ordersFrom length n = length - n
+
+abbrev pub yieldsFrom : ℕ → ℕ → ℕ
+yieldsFrom length n = ordersFrom length n - n * 2
+
 -- the bytes of a row of the largest parlour, and of its image
 abbrev pub longestRow : ℕ
 longestRow = largest * 2

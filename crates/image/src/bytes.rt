@@ -4,7 +4,7 @@ ghost use Prim.Native.Nat.{_+_, _-_, _*_, _<_, _≤_};
 ghost use mathlib.Core.Bool.{not};
 ghost use lib.ListN.{length};
 ghost use Rattle.image.specs.Stalls.{some};
-ghost use Rattle.image.specs.Layout.{isCount, isYield, word, rowPlace};
+ghost use Rattle.image.specs.Layout.{isCount, isYield, ordersFrom, rowPlace, word, yieldsFrom};
 ghost use Rattle.image.specs.Frame.{Framed};
 ghost use Rattle.image.specs.Check.{badStall, badYields};
 use crate::Head;
@@ -61,13 +61,34 @@ pub fn row_place(n: u8, r: u8) -> usize
     place
 }
 
+// x less y, 0 where y is larger.
+fn less(x: usize, y: usize) -> usize
+    ensures { λ r. ⌜ r ≡ x - y ⌝ }
+{
+    if x < y { 0 } else { x - y }
+}
+
+// Where the order bytes of an image of n stalls start, counted from its end.
+pub fn orders_place(length: usize, n: usize) -> usize
+    ensures { λ r. ⌜ r ≡ ordersFrom length n ⌝ }
+{
+    less(length, n)
+}
+
+// Where its yields start.
+pub fn yields_place(length: usize, n: usize) -> usize
+    ensures { λ r. ⌜ r ≡ yieldsFrom length n ⌝ }
+{
+    less(less(orders_place(length, n), n), n)
+}
+
 // Check 4.
 pub(crate) fn bad_yields(image: &[u8], n: u8, own: u8) -> bool
     requires { ⌜ Framed (now image) n own ⌝ }
     ensures { λ b. ⌜ b ≡ badYields (now (image .entry)) n ⌝ }
 {
     let m = wide(n);
-    !is_yield(word_at(image, 2)) | some_no_yield(image, m, image.len() - (m + m + m))
+    !is_yield(word_at(image, 2)) | some_no_yield(image, m, yields_place(image.len(), m))
 }
 
 // Check 3: a parlour of n heads has no such stall.

@@ -9,6 +9,7 @@ ghost use Rattle.image.specs.Stalls.{bits, bitOf};
 ghost use Rattle.image.specs.Layout.{largest, rowPlace};
 ghost use Rattle.image.specs.Frame.{Framed};
 ghost use Rattle.image.specs.Check.{badMarks};
+use crate::bytes::orders_place;
 use crate::bytes::row_place;
 use crate::bytes::wide;
 
@@ -74,7 +75,7 @@ fn bad_orders(image: &[u8], n: usize, own: usize, ownrow: usize, ownbit: u64) ->
     let set = heard_set(image, n, ownrow);
     let mut bad = false;
     let mut one = 1u64;
-    let mut at = image.len() - n;
+    let mut at = orders_place(image.len(), n);
     let mut place = ownrow;
     let mut r = 1usize;
     while r <= n {

@@ -12,6 +12,7 @@ use crate::Head;
 use crate::bytes::row_place;
 use crate::bytes::wide;
 use crate::bytes::word_at;
+use crate::bytes::yields_place;
 
 // A name in a column is bad by itself.
 fn bad_name(n: usize, limit: usize, column: usize, partner: usize, label: usize) -> bool
@@ -92,7 +93,7 @@ fn bad_rows(image: &[u8], n: usize, limit: usize, own: usize, ownrow: usize) -> 
 {
     let mut bad = false;
     let mut at = 4usize;
-    let mut yields = image.len() - (n + n + n);
+    let mut yields = yields_place(image.len(), n);
     let mut r = 1usize;
     while r <= n {
         bad = bad_row(image, n, limit, own, r, at, ownrow, yields) | bad;

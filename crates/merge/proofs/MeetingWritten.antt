@@ -1,11 +1,14 @@
 -- Rows, yields and order bytes by value: they may be written into the image of a head that met, and what it holds then.
 use Prim.Native.Nat.{ℕ, _-_, _*_, _≤_}
-use mathlib.Core.Path.{_≡_, ap, _∙_}
-use mathlib.Core.List.{List, [], _++_}
-use lib.ListN.{length, getD, take}
+use mathlib.Core.Path.{_≡_, sym, ap, _∙_}
+use mathlib.Core.List.{List, [], _∷_, _++_, append-assoc}
+use lib.ListN.{length, getD, take, drop}
+use lib.Seq.{length-take-le, drop-append-seam}
 use Rattle.image.specs.Layout.{largest, longestRow}
-use Rattle.image.specs.Stalls.{each}
+use Rattle.image.specs.Stalls.{each, bits}
+use Rattle.image.specs.Encode.{tableOf}
 use Rattle.image.specs.Frame.{Sized, Framed}
+use Rattle.merge.specs.Merged.{mergedOrder}
 use Rattle.merge.specs.Orders.{Ordered}
 use Rattle.merge.specs.Body.{bodyRow, bodyYield, padded, rowIn, imageAfter}
 use Rattle.merge.proofs.BodyWritten.{rows-long, yields-long, rows-in, yields-in}
@@ -27,3 +30,14 @@ module _ (s u : List ℕ) (n p q k : ℕ) (v : ℕ → ℕ) (a : Framed s n p) (
       e
       ∙ ap (λ j. take 4 d ++ each j (rowIn rows j) ++ take (j * 2) yields ++ take j orders) m-is
       ∙ rw (rows-in s u n p q k v a b rows yields rows-are yields-are, yields-in s u n p q k v a b rows yields rows-are yields-are, orders-in s u n p q orders (a .n-to) orders-are)
+
+-- what stands behind the first four bytes of one image afterwards, in the other
+pub copied : (d e s u : List ℕ) (n p q k : ℕ) (v : ℕ → ℕ) (x y : List ℕ) → 4 ≤ length d → x ≡ imageAfter d s u n p q k v → y ≡ take 4 e ++ drop 4 x
+    → y ≡ imageAfter e s u n p q k v
+copied d e s u n p q k v x y l g h =
+    let a = each n (bodyRow s u n p q k v) in
+    let b = each n (bodyYield s u n p q v) in
+    let c = each n (λ r. bits n (mergedOrder n p (tableOf s n) q (tableOf u n) r) ∷ []) in
+    let j : (f : List ℕ) → take 4 f ++ a ++ b ++ c ≡ take 4 f ++ (a ++ b ++ c) = λ f. ap (λ t. t ++ c) (append-assoc (take 4 f) a b) ∙ append-assoc (take 4 f) (a ++ b) c in
+    let i : drop 4 (take 4 d ++ (a ++ b ++ c)) ≡ a ++ b ++ c = ap (λ m. drop m (take 4 d ++ (a ++ b ++ c))) (sym (length-take-le 4 d l)) ∙ drop-append-seam (take 4 d) (a ++ b ++ c) in
+    h ∙ ap (λ t. take 4 e ++ drop 4 t) (g ∙ j d) ∙ ap (λ t. take 4 e ++ t) i ∙ sym (j e)

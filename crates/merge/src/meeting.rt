@@ -16,6 +16,7 @@ use crate::known::verdicts;
 use crate::label::new_label;
 use crate::orders::orders_after;
 use crate::rows::merged_rows;
+use crate::write::copy_body;
 use crate::write::write_body;
 use crate::yields::merged_yields;
 use image::Checked;
@@ -45,7 +46,7 @@ fn write_meeting(
     let yields = merged_yields(first, second, n, p, q, verdicts);
     let orders = orders_after(first, second, n, p, q, verdicts);
     write_body(first, m, rows, yields, orders);
-    write_body(second, m, rows, yields, orders);
+    copy_body(second, first);
     k
 }
 

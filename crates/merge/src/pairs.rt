@@ -35,6 +35,13 @@ pub(crate) fn pair_at(image: &[u8], at: usize) -> Pair
     }
 }
 
+// The one pair or the other. Both are read before, so that no branch depends on the verdict.
+fn either(t: bool, x: Pair, y: Pair) -> Pair
+    ensures { λ r. ⌜ pairBytes r ≡ cond t (pairBytes x) (pairBytes y) ⌝ }
+{
+    if t { x } else { y }
+}
+
 // The pair of stall c, which stands d bytes behind the start of the row.
 fn pick(first: &[u8], a: Side, second: &[u8], b: Side, c: usize, d: usize, verdict: u8) -> Pair
     requires { ⌜ (a .at + d + 1 < length (now first)) × (b .at + d + 1 < length (now second)) ⌝ }
@@ -44,16 +51,11 @@ fn pick(first: &[u8], a: Side, second: &[u8], b: Side, c: usize, d: usize, verdi
         (cond (eqb c (b .stall)) (pairBytes (b .own))
         (cond (eqb verdict 2) (pairAt (now (second .entry)) (b .at + d)) (pairAt (now (first .entry)) (a .at + d)))) ⌝ }
 {
-    if c == a.stall {
-        return a.own;
-    }
-    if c == b.stall {
-        return b.own;
-    }
-    if verdict == 2 {
-        return pair_at(second, b.at + d);
-    }
-    pair_at(first, a.at + d)
+    let x = pair_at(first, a.at + d);
+    let y = pair_at(second, b.at + d);
+    let taken = either(verdict == 2, y, x);
+    let other = either(c == b.stall, b.own, taken);
+    either(c == a.stall, a.own, other)
 }
 
 // The pairs of n stalls, each from the head that the verdict on it points to.

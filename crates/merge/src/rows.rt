@@ -1,10 +1,10 @@
-// The rows that both heads hold after a meeting, by value: each as 16 bytes, with zeros behind its names.
+// The rows that both heads hold after a meeting, by value: each with room for the largest parlour, zeros behind its names.
 ghost use mathlib.Core.Path.{_≡_};
 ghost use Prim.Native.Nat.{ℕ, _+_, _-_, _*_, _≤_, _<_};
 ghost use mathlib.Core.Bool.{cond};
 ghost use mathlib.Core.List.{[]};
 ghost use lib.Dec.{eqb};
-ghost use lib.ListN.{length, take, drop, set, getD};
+ghost use lib.ListN.{length, take, drop, getD};
 ghost use Rattle.image.specs.Layout.{largest};
 ghost use Rattle.image.specs.Frame.{Framed};
 ghost use Rattle.image.specs.Stalls.{each};
@@ -30,16 +30,6 @@ pub(crate) fn row_of(image: &[u8], at: usize, n: usize) -> [u8; ROW]
         i += 1;
     }
     row
-}
-
-// The rows with another one at an index.
-fn with_row(rows: [[u8; ROW]; STALLS], i: usize, row: [u8; ROW]) -> [[u8; ROW]; STALLS]
-    requires { ⌜ i < largest ⌝ }
-    ensures { λ r. ⌜ r ≡ set rows i row ⌝ }
-{
-    let mut next = rows;
-    next[i] = row;
-    next
 }
 
 // The new list of latests, after the meeting of p and q with label k.
@@ -118,8 +108,7 @@ pub(crate) fn merged_rows(
     while c < m {
         let met = (c + 1 == x) | (c + 1 == y);
         let row = row_after(first, second, m, at, met, verdicts[c], latest);
-        let next = with_row(rows, c, row);
-        rows = next;
+        rows[c] = row;
         at += m + m;
         c += 1;
     }

@@ -10,6 +10,19 @@ ghost use Rattle.merge.specs.Body.{rowIn};
 use image::ROW;
 use image::STALLS;
 
+// What another image of the same length holds behind its first four bytes.
+pub(crate) fn copy_body(image: &mut [u8], from: &[u8])
+    requires { ⌜ (4 ≤ length (now image)) × (length (now image) ≡ length (now from)) ⌝ }
+    ensures { λ r. ⌜ now (image .exit) ≡ take 4 (now (image .entry)) ++ drop 4 (now (from .entry)) ⌝ }
+{
+    let rest = image.len() - 4;
+    let mut i = 0usize;
+    while i < rest {
+        image[4 + i] = from[4 + i];
+        i += 1;
+    }
+}
+
 // The first bytes of a row at a place.
 pub(crate) fn write_at(image: &mut [u8], at: usize, count: usize, bytes: [u8; ROW])
     requires { ⌜ (count ≤ longestRow) × (at + count ≤ length (now image)) × (length bytes ≡ longestRow) ⌝ }

@@ -36,25 +36,25 @@ bad-orders-spec =
     Inv-loop
     μ-loop
     (λ c κs. (omega (arith, row-within (c .before .pre .0 .own-from) (c .before .pre .0 .own-to)), omega arith))
-    (λ c. omega arith)
+    (λ c κs. tt)
     (λ c. (looked-start _, bit-start, omega arith))
     (λ c. omega arith)
     (λ c κs. tt)
-    (λ c. omega (arith, row-within (c .before .before .before .before .before .before .before .pre .0 .own-from) (c .before .before .before .before .before .before .before .pre .0 .own-to)))
+    (λ c. omega (arith, row-within (c .before .before .before .before .before .before .before .before .pre .0 .own-from) (c .before .before .before .before .before .before .before .before .pre .0 .own-to)))
     (λ c κs. tt)
     (λ c. omega (arith, bit-le largest (c .before .before .before .before .before .loop .inv .1) (omega arith)))
     (λ c. omega arith)
-    (λ c. omega (arith, row-within (c .before .before .before .before .before .before .before .before .pre .0 .own-from) (c .before .before .before .before .before .before .before .before .pre .0 .own-to)))
+    (λ c. omega (arith, row-within (c .before .before .before .before .before .before .before .before .before .pre .0 .own-from) (c .before .before .before .before .before .before .before .before .before .pre .0 .own-to)))
     (λ c. omega arith)
     (λ c. omega arith)
     (λ c.
-    let p = c .before .before .before .before .before .before .before .before .pre in
-    let a = c .before .before .before .before .before .before .before .before .args in
+    let p = c .before .before .before .before .before .before .before .before .before .pre in
+    let a = c .before .before .before .before .before .before .before .before .before .args in
     let l = c .before .before .before .before .before .loop in
     let i = l .inv in (
       looked-next (i .0) (c .before .before .before .before .loop-test .taken) (c .bad-order .result)
           (c .bad-order .ensures
-          ∙ order-test (a .image .now) (a .n) (a .own) (l .r) (c .before .before .widen .result) _ _ _ (not (eqb (getD (a .image .now) (l .place) 0) 0)) (c .before .before .widen .ensures .1) (cc) (cc) (heard-set-is (a .image .now) (a .n) (a .own) _ _ (p .1) (c .before .before .before .before .before .before .heard-set .ensures)) (i .1 .is) (p .2)),
+          ∙ order-test (a .image .now) (a .n) (a .own) (l .r) (c .before .before .widen .result) _ _ _ (not (eqb (getD (a .image .now) (l .place) 0) 0)) (c .before .before .widen .ensures .1) (cc) (cc) (heard-set-is (a .image .now) (a .n) (a .own) _ _ (p .1) (c .before .before .before .before .before .before .before .heard-set .ensures)) (i .1 .is) (p .2)),
       bit-next (i .1),
       omega arith,
     ))

@@ -23,20 +23,18 @@ bad-rows-spec =
     (tie.spec
     Inv-loop
     μ-loop
-    (λ c. omega arith)
-    (λ c. omega arith)
-    (λ c. omega arith)
+    (λ c κs. tt)
     (λ c. (looked-start _, omega arith))
     (λ c κs. (
       record {
-        framed = c .before .before .before .pre .0;
+        framed = c .before .before .before .before .pre .0;
         r-from = c .before .loop .inv .0 .from;
         r-to = c .loop-test .taken;
         row-is = c .before .loop .inv .0 .stands;
-        ownrow-is = c .before .before .before .pre .2;
+        ownrow-is = c .before .before .before .before .pre .2;
         yields-is = c .before .loop .inv .1;
       },
-      c .before .before .before .pre .1,
+      c .before .before .before .before .pre .1,
     ))
     (λ c. omega arith)
     (λ c. omega (arith, row-within (c .before .before .loop .inv .0 .from) (c .before .loop-test .taken)))
