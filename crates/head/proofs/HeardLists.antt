@@ -10,7 +10,7 @@ use borrow.Author.Tests.{le-leb, lt-leb, eq-eqb, ne-eqb}
 use lib.Dec.{leb, eqb}
 use lib.ListN.{length, take, drop, replicate, length-append}
 use lib.Seq.{take-at}
-use Rattle.image.specs.Layout.{partnerAt, labelAt, nameFrom, nameAt, heardAt, yieldsPlace}
+use Rattle.image.specs.Layout.{partnerAt, labelAt, nameFrom, nameAt, heardAt, yieldsPlace, yieldsFrom}
 use Rattle.image.specs.Frame.{Framed}
 use Rattle.image.specs.Row.{isNever, ownRow}
 use Rattle.image.specs.declared.Name.the-variants.{Never, With}
@@ -148,20 +148,20 @@ heard-agree s n own row f e r a b =
 
 module _ (s : List ℕ) (n own m : ℕ) (row : List Entry) (d mid out : List ℕ) (end : ℕ) (f : Framed s n own) (i : m ≡ n) (rowIs : row ≡ ownRow s n own)
     (long : length d ≡ 3 * n) (midlong : length mid ≡ length d) (ends : end ≡ 3 * length (chosen m (heardIn row)))
-    (mids : mid ≡ recordsTo s (length s - (m + m + m)) row m ++ drop end d)
+    (at : ℕ) (stands : at ≡ yieldsFrom (length s) m) (mids : mid ≡ recordsTo s at row m ++ drop end d)
     (outs : out ≡ take end mid ++ replicate (length mid - end) 0) where
-  yields-at : length s - (m + m + m) ≡ yieldsPlace n
+  yields-at : at ≡ yieldsPlace n
   yields-at = omega (arith, f .long)
 
   -- the records written are those of the definition
-  same-records : recordsTo s (length s - (m + m + m)) row m ≡ flatMap (recordOf s n) (chosen m (heardIn row))
+  same-records : recordsTo s at row m ≡ flatMap (recordOf s n) (chosen m (heardIn row))
   unfolding recordsTo
   same-records = ap (λ y. flatMap (recordAt s y) (chosen m (heardIn row))) yields-at
 
   front : take end mid ≡ flatMap (recordOf s n) (chosen m (heardIn row))
   front =
       ap (take end) mids
-      ∙ take-at (recordsTo s (length s - (m + m + m)) row m) (drop end d) end (length-recordsTo s (length s - (m + m + m)) row m ∙ sym ends)
+      ∙ take-at (recordsTo s at row m) (drop end d) end (length-recordsTo s at row m ∙ sym ends)
       ∙ same-records
 
   pub heard-list : HeardList s n own (end / 3) out

@@ -12,6 +12,7 @@ ghost use Rattle.head.specs.HeardOrder.{chosen, heardIn, recordsTo};
 use image::Entry;
 use image::STALLS;
 use image::bytes::wide;
+use image::bytes::yields_place;
 use image::rows::is_never;
 use image::rows::own_row;
 
@@ -85,7 +86,7 @@ pub(crate) fn heard_list(image: &[u8], n: u8, own: u8, records: &mut [u8]) -> u3
 {
     let m = wide(n);
     let row = own_row(image, n, own);
-    let end = put_records(image, m, image.len() - (m + m + m), row, records);
+    let end = put_records(image, m, yields_place(image.len(), m), row, records);
     clear_from(records, end);
     (end / 3) as u32
 }

@@ -7,7 +7,7 @@ use native.Mathlib.Nat.{mul-le-mul-right}
 use native.Mathlib.Numerals.{add-one}
 use lib.ListN.{length, getD, take, drop, length-append, take-append-drop}
 use lib.Seq.{paste, length-paste, length-take-le, take-at, drop-append-add, drop-drop}
-use Rattle.image.specs.Layout.{ordersPlace, yieldsPlace, longestRow}
+use Rattle.image.specs.Layout.{ordersPlace, yieldsPlace, longestRow, yieldsFrom}
 use Rattle.image.specs.Stalls.{each}
 use Rattle.image.specs.Frame.{Sized}
 use Rattle.merge.specs.Body.{rowIn}
@@ -82,9 +82,9 @@ module _ (d : List ℕ) (n : ℕ) (rows : List (List ℕ)) (sized : Sized d n) (
   )
 
 -- the yields at their place
-pub yields-written : (d l x : List ℕ) (n : ℕ) → Sized d n → l ≡ paste d (length d - (n + n + n)) x (n + n)
+pub yields-written : (d l x : List ℕ) (n at : ℕ) → Sized d n → at ≡ yieldsFrom (length d) n → l ≡ paste d at x (n + n)
     → l ≡ take (yieldsPlace n) d ++ take (n * 2) x ++ drop (ordersPlace n) d
-yields-written d l x n w g =
-    let e : length d - (n + n + n) ≡ yieldsPlace n = omega (arith, w .long) in
+yields-written d l x n at w is g =
+    let e : at ≡ yieldsPlace n = omega (arith, w .long) in
     let i : n + n ≡ n * 2 = omega arith in
     g ∙ ap₂ (λ j k. paste d j x k) e i

@@ -16,6 +16,7 @@ ghost use Rattle.merge.specs.Judged.{verdictIn, Judged};
 use image::Entry;
 use image::Name;
 use image::STALLS;
+use image::bytes::orders_place;
 use image::bytes::wide;
 use image::marks::pick;
 use image::marks::widen;
@@ -162,7 +163,7 @@ fn judge_all(
 {
     let mut out = [0u8; STALLS];
     let m = wide(n);
-    let mut at = first.len() - m;
+    let mut at = orders_place(first.len(), m);
     let mut r = 0usize;
     while r < m {
         let x = mine[r];

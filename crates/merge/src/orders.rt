@@ -13,6 +13,7 @@ use crate::Sets;
 use image::Entry;
 use image::ROW;
 use image::STALLS;
+use image::bytes::orders_place;
 use image::bytes::wide;
 use image::marks::pick;
 use image::marks::widen;
@@ -111,7 +112,7 @@ pub(crate) fn merged_orders(
 {
     let mut out = [0u8; ROW];
     let m = wide(n);
-    let mut at = first.len() - m;
+    let mut at = orders_place(first.len(), m);
     let mut s = 1u8;
     let mut r = 0usize;
     while r < m {

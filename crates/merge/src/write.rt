@@ -9,6 +9,8 @@ ghost use Rattle.image.specs.Stalls.{each};
 ghost use Rattle.merge.specs.Body.{rowIn};
 use image::ROW;
 use image::STALLS;
+use image::bytes::orders_place;
+use image::bytes::yields_place;
 
 // What another image of the same length holds behind its first four bytes.
 pub(crate) fn copy_body(image: &mut [u8], from: &[u8])
@@ -59,7 +61,7 @@ pub(crate) fn write_yields(image: &mut [u8], n: usize, yields: [u8; ROW])
         ⌜ now (image .exit)
         ≡ take (yieldsPlace n) (now (image .entry)) ++ take (n * 2) yields ++ drop (ordersPlace n) (now (image .entry)) ⌝ }
 {
-    let at = image.len() - (n + n + n);
+    let at = yields_place(image.len(), n);
     write_at(image, at, n + n, yields);
 }
 
@@ -78,6 +80,6 @@ pub(crate) fn write_body(
 {
     write_rows(image, n, rows);
     write_yields(image, n, yields);
-    let at = image.len() - n;
+    let at = orders_place(image.len(), n);
     write_at(image, at, n, orders);
 }

@@ -12,6 +12,7 @@ use crate::pairs::pair_at;
 use image::ROW;
 use image::STALLS;
 use image::bytes::wide;
+use image::bytes::yields_place;
 
 // The yields of n stalls, with zeros behind them: for the two that met their current ones.
 pub(crate) fn merged_yields(
@@ -28,12 +29,12 @@ pub(crate) fn merged_yields(
     let m = wide(n);
     let a = Side {
         stall: wide(p),
-        at: first.len() - (m + m + m),
+        at: yields_place(first.len(), m),
         own: pair_at(first, 2),
     };
     let b = Side {
         stall: wide(q),
-        at: second.len() - (m + m + m),
+        at: yields_place(second.len(), m),
         own: pair_at(second, 2),
     };
     mixed(first, a, second, b, m, verdicts)

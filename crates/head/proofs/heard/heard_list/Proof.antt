@@ -12,11 +12,12 @@ heard-list-spec =
     (tie.spec
     (λ c κs. tt)
     (λ c κs. tt)
-    (λ c. search needs)
-    (λ c. search needs)
-    (λ c. search needs)
+    (λ c κs. tt)
     (λ c κs. search needs)
-    (λ c κs. omega (arith, c .before .before .before .put-records .kept .1 .1 .1 .1 .0, c .before .before .before .put-records .ensures .0, length-chosen (c .before .before .before .before .before .before .wide .result) (heardIn (c .before .before .before .before .before .own-row .result))))
-    (λ c. omega (arith, c .before .before .before .before .before .before .put-records .ensures .0, length-chosen (c .before .before .before .before .before .before .before .before .before .wide .result) (heardIn (c .before .before .before .before .before .before .before .before .own-row .result))))
+    (λ c κs. omega (arith, c .before .before .before .put-records .kept .1 .1 .1 .1 .0, c .before .before .before .put-records .ensures .0, length-chosen (c .before .before .before .before .before .before .before .wide .result) (heardIn (c .before .before .before .before .before .before .own-row .result))))
+    (λ c. omega (arith, c .before .before .before .before .before .before .put-records .ensures .0, length-chosen (c .before .before .before .before .before .before .before .before .before .before .wide .result) (heardIn (c .before .before .before .before .before .before .before .before .before .own-row .result))))
     (λ c. search needs)
-    (λ c. heard-list _ _ _ _ _ _ _ _ _ (c .before .before .before .before .before .before .before .before .before .before .before .before .pre .0) (c .before .before .before .before .before .before .before .before .before .wide .ensures .0) (c .before .before .before .before .before .before .before .before .own-row .ensures) (c .before .before .before .before .before .before .before .before .before .before .before .before .pre .1) (c .before .before .before .before .before .before .put-records .kept .1 .1 .1 .1 .0) (c .before .before .before .before .before .before .put-records .ensures .0) (c .before .before .before .before .before .before .put-records .ensures .1) (c .before .before .clear-from .ensures)))
+    (λ c.
+    let start = c .before .before .before .before .before .before .before .before .before .before .before .before .before in
+    let put = c .before .before .before .before .before .before .put-records in
+    heard-list _ _ _ _ _ _ _ _ _ (start .pre .0) (c .before .before .before .before .before .before .before .before .before .before .wide .ensures .0) (c .before .before .before .before .before .before .before .before .before .own-row .ensures) (start .pre .1) (put .kept .1 .1 .1 .1 .0) (put .ensures .0) _ (c .before .before .before .before .before .before .before .before .yields-place .ensures) (put .ensures .1) (c .before .before .clear-from .ensures)))

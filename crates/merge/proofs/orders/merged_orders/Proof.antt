@@ -23,8 +23,8 @@ merged-orders-spec =
     Inv-loop
     μ-loop
     (λ c κs. tt)
-    (λ c. omega arith)
-    (λ c. (by-stall-start refl, omega arith, c .wide .ensures .0, omega (arith, c .wide .ensures .0), omega arith))
+    (λ c κs. tt)
+    (λ c. (by-stall-start refl, omega arith, c .before .wide .ensures .0, omega (arith, c .before .wide .ensures .0), omega arith))
     (λ c. omega arith)
     (λ c. omega arith)
     (λ c. omega arith)
@@ -41,8 +41,8 @@ merged-orders-spec =
     (λ c. omega arith)
     (λ c. omega arith)
     (λ c.
-    let a = c .before .before .before .before .before .before .before .before .before .before .before .before .args in
-    let h = c .before .before .before .before .before .before .before .before .before .before .before .before .pre in
+    let a = c .before .before .before .before .before .before .before .before .before .before .before .before .before .args in
+    let h = c .before .before .before .before .before .before .before .before .before .before .before .before .before .pre in
     let l = c .before .before .before .before .before .before .before .before .loop in (
       by-stall-next (l .inv .0) (omega arith) (c .order-byte .result)
           (order-next (a .first .now) (a .second .now) (a .n) (a .p) (a .q) (h .0 .0) (h .0 .1) (a .t7) (a .t8) (h .1 .0 .0) (h .1 .0 .1) (a .t6) (a .x) (h .1 .1 .0) (h .1 .1 .1)
@@ -53,4 +53,4 @@ merged-orders-spec =
       omega arith,
       omega arith,
     ))
-    (λ c. subst (λ k. Ordered (c .before .before .before .before .before .args .first .now) (c .before .before .before .before .before .args .second .now) (c .before .before .before .before .before .args .n) (c .before .before .before .before .before .args .p) (c .before .before .before .before .before .args .q) k (c .before .loop .out)) (let e : c .before .loop .r ≡ c .before .before .before .before .before .args .n = omega arith in e) (c .before .loop .inv .0)))
+    (λ c. subst (λ k. Ordered (c .before .before .before .before .before .before .args .first .now) (c .before .before .before .before .before .before .args .second .now) (c .before .before .before .before .before .before .args .n) (c .before .before .before .before .before .before .args .p) (c .before .before .before .before .before .before .args .q) k (c .before .loop .out)) (let e : c .before .loop .r ≡ c .before .before .before .before .before .before .args .n = omega arith in e) (c .before .loop .inv .0)))

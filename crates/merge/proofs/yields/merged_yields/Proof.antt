@@ -12,14 +12,13 @@ merged-yields-spec =
     (tie.spec
     (λ c κs. tt)
     (λ c κs. tt)
-    (λ c. search needs)
-    (λ c. search needs)
-    (λ c. search needs)
+    (λ c κs. tt)
     (λ c κs. search needs)
     (λ c κs. tt)
-    (λ c. search needs)
-    (λ c. search needs)
-    (λ c. search needs)
+    (λ c κs. tt)
     (λ c κs. search needs)
     (λ c κs. search needs)
-    (λ c. mixed-yields (c .before .before .before .before .before .before .before .before .args .first .now) (c .before .before .before .before .before .before .before .before .args .second .now) _ (verdictIn (c .before .before .before .before .before .before .before .before .args .verdicts)) _ _ _ _ _ _ (c .before .before .before .before .before .wide .ensures .0) (c .before .before .before .before .wide2 .ensures .0) (c .before .before .wide3 .ensures .0) (c .mixed .ensures) (omega arith) (omega arith) (c .before .before .before .pair-at .ensures) (c .before .pair-at2 .ensures)))
+    (λ c.
+    let start = c .before .before .before .before .before .before .before .before .before .before in
+    mixed-yields (start .args .first .now) (start .args .second .now) _ (verdictIn (start .args .verdicts)) _ _ _ _ _ _ (c .before .before .before .before .before .before .before .wide .ensures .0) (c .before .before .before .before .before .before .wide2 .ensures .0) (c .before .before .before .wide3 .ensures .0) (c .mixed .ensures)
+    (omega (arith, c .before .before .before .before .before .yields-place .ensures, start .pre .0 .long)) (omega (arith, c .before .before .yields-place2 .ensures, start .pre .1 .long)) (c .before .before .before .before .pair-at .ensures) (c .before .pair-at2 .ensures)))
