@@ -4,12 +4,8 @@ use mathlib.Core.Path.{_≡_, sym, ap, _∙_}
 use mathlib.Core.List.{List, [], _∷_, _++_, append-assoc, append-nil}
 use native.Mathlib.Omega.{arith}
 use lib.ListN.{length, take, drop, set, replicate, length-append, length-replicate, replicate-append-replicate, take-append-drop}
-use lib.Seq.{drop-cons, append-snoc, set-at, sets-eq, length-take-le, drop-length}
-
--- one byte more behind what is written
-pub store-next : (d p : List ℕ) (i v : ℕ) → length p ≡ i → i < length d → set (p ++ drop i d) i v ≡ p ++ (v ∷ []) ++ drop (suc i) d
-store-next d p i v e l =
-    ap (λ r. set (p ++ r) i v) (drop-cons d i 0 l) ∙ set-at p _ (drop (suc i) d) v i e ∙ sym (append-snoc p v (drop (suc i) d))
+use lib.Seq.{sets-eq, length-take-le, drop-length}
+use Rattle.image.proofs.Overwrite.{store-next}
 
 -- three bytes at a place
 pub store-three : (d : List ℕ) (at x y z : ℕ) → at + 3 ≤ length d
@@ -35,11 +31,9 @@ cleared-next d at i a l =
     let long : length (take at d ++ replicate (i - at) 0) ≡ i =
     length-append (take at d) (replicate (i - at) 0) ∙ omega (arith, length-take-le at d (omega arith), length-replicate {A = ℕ} (i - at) 0) in
     let j : i - at + 1 ≡ i + 1 - at = omega arith in
-    let k : suc i ≡ i + 1 = omega arith in
     store-next d (take at d ++ replicate (i - at) 0) i 0 long l
-    ∙ ap (λ r. r ++ drop (suc i) d) (append-assoc (take at d) (replicate (i - at) 0) (0 ∷ []) ∙ ap (λ r. take at d ++ r) (replicate-append-replicate (i - at) 1 0))
-    ∙ ap (λ m. take at d ++ replicate m 0 ++ drop (suc i) d) j
-    ∙ ap (λ m. take at d ++ replicate (i + 1 - at) 0 ++ drop m d) k
+    ∙ ap (λ r. r ++ drop (i + 1) d) (append-assoc (take at d) (replicate (i - at) 0) (0 ∷ []) ∙ ap (λ r. take at d ++ r) (replicate-append-replicate (i - at) 1 0))
+    ∙ ap (λ m. take at d ++ replicate m 0 ++ drop (i + 1) d) j
 
 pub cleared-end : (d : List ℕ) (at i : ℕ) → i ≡ length d → cleared d at i ≡ take at d ++ replicate (length d - at) 0
 unfolding cleared

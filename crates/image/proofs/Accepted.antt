@@ -14,6 +14,7 @@ use Rattle.image.specs.Encode.{encode, tableOf}
 use Rattle.image.specs.declared.Header.{Header}
 use Rattle.image.specs.declared.Checked.{Checked}
 use Rattle.image.specs.declared.Checked.the-variants.{Good, Refused}
+use Rattle.image.proofs.Passing.{not-fails}
 use Rattle.image.proofs.Encoding.{encode-accepted}
 use Rattle.image.proofs.Stages.{sized, framed, good-body, checked-body}
 
@@ -37,10 +38,6 @@ pub not-either : (a b : Bool) → (a || b) ≡ false → (a ≡ false) × (b ≡
 not-either true b e = absurd (true≢false e)
 not-either false b e = (refl, e)
 
-not-not : (b : Bool) → not b ≡ false → b ≡ true
-not-not true e = refl
-not-not false e = absurd (true≢false e)
-
 body-accepted : (s : List ℕ) (n own : ℕ) (h : Header) → Sized s n → getD s 0 0 ≡ n → getD s 1 0 ≡ own → checkBody s n own ≡ Good h → Accepted s (h .n) (h .stall)
 unfolding checkBody
 body-accepted s n own h z i j e =
@@ -58,7 +55,7 @@ accepted s h e =
     let (a, p) = passed (badCount s) 1 e in
     let (b, q) = passed (badLength s) 2 p in
     let (c, d) = not-either (eqb (length s) 0) (not (leb 2 (getD s 0 0) && leb (getD s 0 0) largest)) a in
-    body-accepted s (getD s 0 0) (getD s 1 0) h (sized d (eqb-true _ _ (not-not _ b))) refl refl q
+    body-accepted s (getD s 0 0) (getD s 1 0) h (sized d (eqb-true _ _ (not-fails _ .0 b))) refl refl q
 
 within : {a b x : ℕ} → a ≤ x → x ≤ b → not (leb a x && leb x b) ≡ false
 within {a} {b} {x} p q = rw (le-leb a x p, le-leb x b q)

@@ -1,16 +1,21 @@
 -- A list overwritten from the front, element by element.
-use Prim.Native.Nat.{ℕ, _+_, _≤_, _<_}
+use Prim.Native.Nat.{ℕ, suc, _+_, _≤_, _<_}
 use mathlib.Core.Path.{_≡_, sym, ap, ap₂, _∙_}
-use mathlib.Core.List.{List, _++_, append-nil}
+use mathlib.Core.List.{List, [], _∷_, _++_, append-nil}
 use native.Mathlib.Omega.{arith}
 use native.Mathlib.Nat.{zero-add}
 use native.Mathlib.Numerals.{add-one}
 use lib.ListN.{length, getD, take, drop, set}
-use lib.Seq.{paste-suc, drop-length, take-at, drop-append-add, drop-drop}
+use lib.Seq.{paste-suc, drop-cons, set-at, append-snoc, drop-length, take-at, drop-append-add, drop-drop}
 
 -- one byte more
 pub overwrite-next : (d t image : List ℕ) (i : ℕ) → i < length d → i < length t → image ≡ take i t ++ drop i d → set image i (getD t i 0) ≡ take (i + 1) t ++ drop (i + 1) d
 overwrite-next d t image i a b e = rw (add-one, e) (simp zero-add at (paste-suc d 0 t i 0 (omega arith) b))
+
+-- one byte more behind what is written
+pub store-next : (d p : List ℕ) (i v : ℕ) → length p ≡ i → i < length d → set (p ++ drop i d) i v ≡ p ++ (v ∷ []) ++ drop (i + 1) d
+store-next d p i v e l =
+    rw add-one (ap (λ r. set (p ++ r) i v) (drop-cons d i 0 l) ∙ set-at p _ (drop (suc i) d) v i e ∙ sym (append-snoc p v (drop (suc i) d)))
 
 -- all of them
 pub overwrite-end : (d t image : List ℕ) (i : ℕ) → length d ≤ i → i ≤ length d → image ≡ take i t ++ drop i d → image ≡ take (length d) t

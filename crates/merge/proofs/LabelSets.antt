@@ -11,18 +11,14 @@ use Rattle.image.specs.Stalls.{bits, has}
 use Rattle.image.specs.Layout.{nameFrom}
 use Rattle.image.specs.declared.Name.the-variants.{Never, With}
 use Rattle.image.proofs.Bits.{has-ext, has-or, has-bits, bits-lt}
+use Rattle.image.proofs.Encoding.{bits-agree, bits-none}
 use Rattle.merge.specs.Label.{isMeeting}
 use Rattle.merge.specs.LabelSet.{labelSet, hasLabel}
 
--- two tests that agree pick the same
-bits-agree : (m : ℕ) (f g : ℕ → Bool) → ((s : ℕ) → f s ≡ g s) → bits m f ≡ bits m g
-unfolding bits
-bits-agree zero f g e = refl
-bits-agree (suc m) f g e = ap₂ (λ x t. x + cond t (2 ^ m) 0) (bits-agree m f g e) (e (suc m))
-
+-- two tests that agree make the same set
 pub set-agree : {f g : ℕ → Bool} → ((k : ℕ) → f k ≡ g k) → labelSet f ≡ labelSet g
 unfolding labelSet
-set-agree {f} {g} e = bits-agree 64 (λ s. f (s - 1)) (λ s. g (s - 1)) (λ s. e (s - 1))
+set-agree {f} {g} e = bits-agree 64 (λ s. f (s - 1)) (λ s. g (s - 1)) (λ s i j. e (s - 1))
 
 -- which labels a set has
 pub has-label : (f : ℕ → Bool) (k : ℕ) → k < 64 → hasLabel (labelSet f) k ≡ f k
@@ -48,11 +44,6 @@ set-or f g =
         ∙ sym (ap (has (labelSet (λ k. f k || g k))) e ∙ has-label (λ k. f k || g k) (s - 1) (omega arith))
 
 -- none
-bits-none : (m : ℕ) → bits m (λ s. false) ≡ 0
-unfolding bits
-bits-none zero = refl
-bits-none (suc m) = rw (bits-none m)
-
 pub set-none : 0 ≡ labelSet (λ k. false)
 unfolding labelSet
 set-none = sym (bits-none 64)

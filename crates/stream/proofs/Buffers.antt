@@ -1,5 +1,5 @@
 -- Answers to the bytes of a block, one after the other in a buffer.
-use Prim.Native.Nat.{ℕ, suc, _+_, _-_, _*_, _≤_, _<_}
+use Prim.Native.Nat.{ℕ, _+_, _-_, _*_, _≤_, _<_}
 use mathlib.Core.Path.{_≡_, refl, sym, ap, ap₂, subst, subst₂, _∙_}
 use mathlib.Core.Bool.{_&&_}
 use mathlib.Core.List.{List, [], _∷_, _++_, append-assoc, append-nil}
@@ -7,26 +7,18 @@ use native.Mathlib.Omega.{arith}
 use native.Mathlib.Numerals.{add-one}
 use borrow.Author.Tests.{eq-eqb, ne-eqb, le-leb}
 use lib.ListN.{length, getD, take, drop, set, length-append, take-append-drop}
-use lib.Seq.{take-suc, drop-cons, set-at, append-snoc, drop-append-le, drop-drop, length-take-le}
+use lib.Seq.{take-suc, drop-append-le, drop-drop, length-take-le}
 use Rattle.line.specs.Digits.{digitsOf}
 use Rattle.line.specs.Frame.{frameOf}
 use Rattle.line.specs.Parlour.{stateLength, isOpen}
 use Rattle.line.specs.Answer.{longestAnswer, written, Replied, AnswerIn, AnswerCall}
-use Rattle.image.proofs.Overwrite.{behind}
+use Rattle.image.proofs.Overwrite.{store-next, behind}
 use Rattle.line.proofs.Hexadecimal.{length-digits}
 use Rattle.stream.specs.Stream.{newline, answerTo, Stream, nothing, another, ended, Last, none, answered}
 use Rattle.stream.specs.Kept.{Kept, keptLine, withByte, begun, keptAfter}
 use Rattle.stream.specs.Call.{room, LineAnswered, Answers, LastAnswers}
 use Rattle.stream.proofs.Answers.{part-room}
 use Rattle.stream.proofs.Keeping.{Fits, kept-append, stream-join}
-
--- one byte behind what is written
-store-next : (d p : List ℕ) (i v : ℕ) → length p ≡ i → i < length d → set (p ++ drop i d) i v ≡ p ++ (v ∷ []) ++ drop (i + 1) d
-store-next d p i v e l =
-    ap (λ r. set (p ++ r) i v) (drop-cons d i 0 l)
-    ∙ set-at p _ (drop (suc i) d) v i e
-    ∙ sym (append-snoc p v (drop (suc i) d))
-    ∙ ap (λ k. p ++ (v ∷ []) ++ drop k d) (sym (add-one i))
 
 -- a line's answer in the part that it is lent, and a newline behind it
 module _ (state text out x state′ : List ℕ) (at r : ℕ) (long : length state ≡ stateLength) (fits : at + room ≤ length out)
