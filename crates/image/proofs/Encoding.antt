@@ -9,7 +9,7 @@ use lib.Dec.{leb, ltb, eqb}
 use lib.ListN.{length, getD, length-append, replicate, length-replicate}
 use lib.Pow.{pow-mono}
 use Rattle.image.specs.Stalls.{some, each, bits, has}
-use Rattle.image.specs.Layout.{largest, labelLimit, noYield, word, namePlace, yieldPlace, orderPlace, currentAt, partnerAt, labelAt, yieldAt, orderAt, markAt, nameFrom, nameAt, heardAt, imageLength, ordersPlace, yieldsPlace}
+use Rattle.image.specs.Layout.{largest, labelLimit, word, namePlace, yieldPlace, orderPlace, currentAt, partnerAt, labelAt, yieldAt, orderAt, markAt, nameFrom, nameAt, heardAt, imageLength, ordersPlace, yieldsPlace}
 use Rattle.image.specs.Frame.{Framed}
 use Rattle.image.specs.Check.{badName, badDiagonal, badUnheard, badRow, badNames, badOrder, badMarks}
 use Rattle.image.specs.Encode.{Table, nameBytes, wordBytes, encode, tableOf, nothing}

@@ -2,7 +2,6 @@
 use Prim.Native.Nat.{ℕ, _≤_}
 use mathlib.Core.Path.{_≡_, refl}
 use mathlib.Core.Bool.{true, false≢true}
-use native.Mathlib.Omega.{arith}
 use Rattle.image.specs.Layout.{isYield}
 use Rattle.image.specs.Encode.{Table, nothing}
 use Rattle.image.specs.Made.{Made}

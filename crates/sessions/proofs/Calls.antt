@@ -16,7 +16,7 @@ use Rattle.sessions.specs.Call.{LineCall}
 use Rattle.sessions.specs.Session.{Answered, Session, begun, answered}
 use Rattle.sessions.specs.Claim.{lines, Said, Claim}
 use Rattle.sessions.specs.Theory.{SessionOf}
-use Rattle.sessions.proofs.Stands.{Stands, Next, next, stands-start, stands-long, stands-images}
+use Rattle.sessions.proofs.Stands.{Stands, next, stands-start, stands-long, stands-images}
 use Rattle.sessions.proofs.Replying.{reply-exists}
 
 -- what a call with runs of the right lengths replies

@@ -1,18 +1,18 @@
 -- From an input to its answers: a stream of bytes is a session of its lines, and calls on blocks make one stream.
-use Prim.Native.Nat.{ℕ, _+_, _≤_, _<_}
+use Prim.Native.Nat.{ℕ, _+_, _≤_}
 use mathlib.Core.Path.{_≡_, refl, sym, ap, subst, _∙_}
 use mathlib.Core.List.{List, [], _∷_, _++_, append-assoc, append-nil}
 use native.Mathlib.Omega.{arith}
 use native.Mathlib.Decide.{ℕ-discrete}
 use borrow.Author.Tests.{ne-eqb}
-use lib.ListN.{length, take, drop, replicate, length-append, length-replicate}
+use lib.ListN.{length, take, drop, replicate, length-replicate}
 use lib.Seq.{take-at, take-length}
 use Rattle.parlour.proofs.Existence.{some-loan}
 use Rattle.line.specs.Frame.{frameOf}
-use Rattle.line.specs.Parlour.{stateLength, isOpen}
+use Rattle.line.specs.Parlour.{isOpen}
 use Rattle.stream.specs.Stream.{newline, emptyState, answerTo, Stream, nothing, another, ended, lineAfter, Last, none, answered, Whole}
 use Rattle.stream.specs.Kept.{longestLine, Kept, keptLine, keptAfter}
-use Rattle.stream.specs.Call.{room, keeping, Ready, Taken, LastAnswers}
+use Rattle.stream.specs.Call.{room, keeping, Ready, Taken}
 use Rattle.stream.specs.declared.Fed.{Fed}
 use Rattle.stream.proofs.Streams.{onward}
 use Rattle.stream.proofs.Keeping.{Fits, fits-after, stream-join, kept-append, whole-of}

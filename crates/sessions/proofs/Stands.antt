@@ -8,7 +8,7 @@ use Rattle.image.specs.Layout.{isCount}
 use Rattle.parlour.specs.Item.{history}
 use Rattle.parlour.specs.Table.{imageAfter}
 use Rattle.line.specs.Frame.{frameOf}
-use Rattle.line.specs.Parlour.{stateLength, headsOf, isOpen, imageOf}
+use Rattle.line.specs.Parlour.{stateLength, headsOf, isOpen}
 use Rattle.line.specs.Answer.{Reply, Replies}
 use Rattle.stream.specs.Stream.{emptyState}
 use Rattle.sessions.specs.Lines.{opens, heads, itemsOf, items, historyOf}

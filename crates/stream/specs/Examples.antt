@@ -11,7 +11,7 @@ use Rattle.line.specs.Frame.{frameOf}
 use Rattle.line.specs.Parlour.{isOpen}
 use Rattle.line.specs.Answer.{Reply, opening, milking, meeting, showing, Replies}
 use Rattle.line.specs.Examples.{answered as evaluated}
-use Rattle.stream.specs.Stream.{newline, answerTo, emptyState, Stream, nothing, another, ended, lineAfter, Last, none, answered, Whole}
+use Rattle.stream.specs.Stream.{newline, answerTo, emptyState, Stream, nothing, another, ended, lineAfter, none, answered, Whole}
 
 noNewline : List ℕ → Bool
 noNewline [] = true

@@ -4,7 +4,7 @@ ghost use Prim.Native.Nat.{_+_, _≤_};
 ghost use mathlib.Core.List.{[], _∷_};
 ghost use lib.ListN.{length, take};
 ghost use Rattle.line.specs.Parlour.{stateLength};
-ghost use Rattle.stream.specs.Kept.{longestLine, Kept, withByte};
+ghost use Rattle.stream.specs.Kept.{longestLine, withByte};
 ghost use Rattle.stream.specs.Call.{room, isReady, Ready, LineAnswered, Answers, keeping, Taken, FeedCall, LastAnswers, FinishCall};
 use line::ANSWER;
 use line::STATE;

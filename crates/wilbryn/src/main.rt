@@ -1,7 +1,5 @@
 // The line program: standard input, one frame a line, to standard output, one answer a line. It reads and writes; all else is `stream`.
 ghost use mathlib.Core.Path.{_≡_};
-ghost use Prim.Native.Nat.{_≤_};
-ghost use lib.ListN.{length};
 ghost use Rattle.stream.specs.Call.{Ready};
 ghost use Rattle.wilbryn.specs.Turn.{standardInput, standardOutput, BlockAnswered, RestAnswered, ReadAnswered, TurnTaken, Ran, Start};
 use libc::STDIN_FILENO;

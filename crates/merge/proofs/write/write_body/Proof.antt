@@ -2,7 +2,6 @@
 use borrow.Author.Needs.{needs}
 use Prim.Native.Nat.{_-_}
 use native.Mathlib.Omega.{arith}
-use lib.ListN.{length}
 use Rattle.merge.proofs.BodyWritten.{body-written}
 use Rattle.merge.proofs.write.write_body.Statement.{statement}
 use Rattle.merge.proofs.write.write_body.Tie as tie
