@@ -39,17 +39,21 @@ module _ (n own : ℕ) (n-from : 2 ≤ n) (n-to : n ≤ largest) where
       ∙ omega (arith, length-fresh, length-replicate {A = ℕ} (longest - lengthOf n) 0, length-range n n-from n-to .1)
 
   -- "N, its stall, then zeros"
-  pub fresh-bytes : n ∷ own ∷ replicate (longest - 2) 0 ≡ freshTable n own
+  pub fresh-zeros : freshImage n own ≡ n ∷ own ∷ replicate (lengthOf n - 2) 0
   unfolding freshImage
+  fresh-zeros =
+      let e : lengthOf n - 2 ≡ 2 + n * (n + n) + n * 2 + n = omega (arith, length-is n n-from n-to) in
+      sym (ap (λ j. n ∷ own ∷ replicate j 0) e ∙ fresh-encode n own)
+
+  -- and so the table has zeros to its end
+  pub fresh-bytes : n ∷ own ∷ replicate (longest - 2) 0 ≡ freshTable n own
   fresh-bytes =
       let (a, b) = length-range n n-from n-to in
-      let k = lengthOf n - 2 in
-      let e : longest - 2 ≡ k + (longest - lengthOf n) = omega arith in
-      let d : k ≡ 2 + n * (n + n) + n * 2 + n = omega (arith, length-is n n-from n-to) in
+      let behind = longest - lengthOf n in
+      let e : longest - 2 ≡ lengthOf n - 2 + behind = omega arith in
       ap (λ j. n ∷ own ∷ replicate j 0) e
-      ∙ ap (λ l. n ∷ own ∷ l) (sym (replicate-append-replicate k (longest - lengthOf n) 0))
-      ∙ ap (λ j. (n ∷ own ∷ replicate j 0) ++ replicate (longest - lengthOf n) 0) d
-      ∙ ap (λ l. l ++ replicate (longest - lengthOf n) 0) (fresh-encode n own)
+      ∙ ap (λ l. n ∷ own ∷ l) (sym (replicate-append-replicate (lengthOf n - 2) behind 0))
+      ∙ ap (λ l. l ++ replicate behind 0) (sym fresh-zeros)
       ∙ sym fresh-table
 
 pub fresh-none : (n own : ℕ) → isCount n ≡ false → replicate longest 0 ≡ freshTable n own

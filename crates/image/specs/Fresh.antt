@@ -1,4 +1,4 @@
--- Document 01: "A fresh image is N, its stall, then zeros.": the image of the table that has heard nobody (specs/Examples.antt evaluates it).
+-- Document 01: "A fresh image is N, its stall, then zeros.": the image of the table that has heard nobody (Theory.antt: fresh-zeros).
 use Prim.Native.Nat.{ℕ, _-_}
 use mathlib.Core.Bool.{cond}
 use mathlib.Core.List.{List, _++_}

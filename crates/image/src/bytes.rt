@@ -31,7 +31,7 @@ fn is_yield(x: usize) -> bool
     x <= (Head::YIELD_LIMIT as usize)
 }
 
-// Some of n yields in a row is none.
+// Some of n numbers in a row is no yield.
 fn some_no_yield(image: &[u8], n: usize, at: usize) -> bool
     requires { ⌜ at + n * 2 ≤ length (now image) ⌝ }
     ensures { λ r. ⌜ r ≡ some n (λ s. not (isYield (word (now (image .entry)) (at + (s - 1) * 2)))) ⌝ }

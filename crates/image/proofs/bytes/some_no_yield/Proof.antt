@@ -1,4 +1,4 @@
--- Some of n yields in a row is none.
+-- Some of n numbers in a row is no yield.
 use Prim.Native.Nat.{_+_, _-_, _*_}
 use mathlib.Core.Path.{ap, _∙_}
 use mathlib.Core.Bool.{not}
