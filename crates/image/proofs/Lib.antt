@@ -10,6 +10,7 @@ pub mod Yields
 pub mod Overwrite
 pub mod Has
 pub mod Encoding
+pub mod StallSets
 pub mod Accepted
 pub mod FreshTable
 pub mod Fill

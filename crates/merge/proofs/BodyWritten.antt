@@ -1,7 +1,7 @@
 -- The rows and yields by value, and the image that they and the order bytes are written into.
 use Prim.Native.Nat.{ℕ, _+_, _-_, _*_, _≤_}
 use mathlib.Core.Path.{_≡_, refl, sym, ap, ap₂, _∙_}
-use mathlib.Core.Bool.{_||_}
+use mathlib.Core.Bool.{Bool, _||_}
 use mathlib.Core.List.{List, [], _∷_, _++_, append-nil}
 use native.Mathlib.Omega.{arith}
 use lib.Dec.{eqb}
@@ -20,45 +20,45 @@ use Rattle.merge.proofs.Written.{length-each-to}
 pub take-padded : (n : ℕ) (l : List ℕ) → length l ≡ n * 2 → take (n * 2) (padded n l) ≡ l
 take-padded n l e = take-at l (replicate (longestRow - n * 2) 0) (n * 2) e
 
-module _ (s u : List ℕ) (n p q k : ℕ) (v : ℕ → ℕ) where
-  pub latest-wide : (c : ℕ) → length (latestPair s u n p q k v c) ≡ 2
+module _ (s u : List ℕ) (n p q k : ℕ) (t : ℕ → Bool) where
+  pub latest-wide : (c : ℕ) → length (latestPair s u n p q k t c) ≡ 2
   unfolding latestPair
   latest-wide c =
       length-choice 2 (q ∷ k ∷ []) _ (eqb c p) refl
-      (length-choice 2 (p ∷ k ∷ []) (pairAt (sourceOf s u v c) (rowPlace n (sourceStall p q v c) + (c - 1) * 2)) (eqb c q) refl refl)
+      (length-choice 2 (p ∷ k ∷ []) (pairAt (sourceOf s u t c) (rowPlace n (sourceStall p q t c) + (c - 1) * 2)) (eqb c q) refl refl)
 
-  pub yield-wide : (r : ℕ) → length (bodyYield s u n p q v r) ≡ 2
+  pub yield-wide : (r : ℕ) → length (bodyYield s u n p q t r) ≡ 2
   unfolding bodyYield
   yield-wide r =
       length-choice 2 (pairAt s 2) _ (eqb r p) refl
-      (length-choice 2 (pairAt u 2) (pairAt (sourceOf s u v r) (yieldPlace n r)) (eqb r q) refl refl)
+      (length-choice 2 (pairAt u 2) (pairAt (sourceOf s u t r) (yieldPlace n r)) (eqb r q) refl refl)
 
-  pub row-wide : Framed s n p → Framed u n q → (r : ℕ) → 1 ≤ r → r ≤ n → length (bodyRow s u n p q k v r) ≡ n * 2
+  pub row-wide : Framed s n p → Framed u n q → (r : ℕ) → 1 ≤ r → r ≤ n → length (bodyRow s u n p q k t r) ≡ n * 2
   unfolding bodyRow
   row-wide a b r i j =
-      let source = sourceOf s u v r in
-      let long = length-choice (imageLength n) u s (eqb (v r) 2) (b .long) (a .long) in
-      length-choice (n * 2) (each n (latestPair s u n p q k v)) (take (n * 2) (drop (rowPlace n r) source)) (eqb r p || eqb r q)
-      (length-each 2 (latestPair s u n p q k v) latest-wide n)
+      let source = sourceOf s u t r in
+      let long = length-choice (imageLength n) u s (t r) (b .long) (a .long) in
+      length-choice (n * 2) (each n (latestPair s u n p q k t)) (take (n * 2) (drop (rowPlace n r) source)) (eqb r p || eqb r q)
+      (length-each 2 (latestPair s u n p q k t) latest-wide n)
       (length-take-le (n * 2) (drop (rowPlace n r) source) (omega (arith, length-drop (rowPlace n r) source, long, row-within i j)))
 
   -- rows and yields by value
   module _ (a : Framed s n p) (b : Framed u n q) (rows : List (List ℕ)) (yields : List ℕ)
-      (rows-are : (r : ℕ) → 1 ≤ r → r ≤ n → getD rows (r - 1) [] ≡ padded n (bodyRow s u n p q k v r)) (yields-are : yields ≡ padded n (each n (bodyYield s u n p q v))) where
+      (rows-are : (r : ℕ) → 1 ≤ r → r ≤ n → getD rows (r - 1) [] ≡ padded n (bodyRow s u n p q k t r)) (yields-are : yields ≡ padded n (each n (bodyYield s u n p q t))) where
     pub rows-long : (r : ℕ) → 1 ≤ r → r ≤ n → length (getD rows (r - 1) []) ≡ longestRow
-    rows-long r i j = ap length (rows-are r i j) ∙ length-padded n (bodyRow s u n p q k v r) (a .n-to) (row-wide a b r i j)
+    rows-long r i j = ap length (rows-are r i j) ∙ length-padded n (bodyRow s u n p q k t r) (a .n-to) (row-wide a b r i j)
 
     pub yields-long : length yields ≡ longestRow
-    yields-long = ap length yields-are ∙ length-padded n (each n (bodyYield s u n p q v)) (a .n-to) (length-each 2 (bodyYield s u n p q v) yield-wide n)
+    yields-long = ap length yields-are ∙ length-padded n (each n (bodyYield s u n p q t)) (a .n-to) (length-each 2 (bodyYield s u n p q t) yield-wide n)
 
-    pub rows-in : each n (rowIn rows n) ≡ each n (bodyRow s u n p q k v)
+    pub rows-in : each n (rowIn rows n) ≡ each n (bodyRow s u n p q k t)
     rows-in =
-        each-agree n (rowIn rows n) (bodyRow s u n p q k v)
-        (λ r i j. ap (take (n * 2)) (rows-are r i j) ∙ take-padded n (bodyRow s u n p q k v r) (row-wide a b r i j))
+        each-agree n (rowIn rows n) (bodyRow s u n p q k t)
+        (λ r i j. ap (take (n * 2)) (rows-are r i j) ∙ take-padded n (bodyRow s u n p q k t r) (row-wide a b r i j))
 
-    pub yields-in : take (n * 2) yields ≡ each n (bodyYield s u n p q v)
+    pub yields-in : take (n * 2) yields ≡ each n (bodyYield s u n p q t)
     yields-in =
-        ap (take (n * 2)) yields-are ∙ take-padded n (each n (bodyYield s u n p q v)) (length-each 2 (bodyYield s u n p q v) yield-wide n)
+        ap (take (n * 2)) yields-are ∙ take-padded n (each n (bodyYield s u n p q t)) (length-each 2 (bodyYield s u n p q t) yield-wide n)
 
 -- what is written behind a front
 pub paste-behind : (front rest l x : List ℕ) (k w : ℕ) → length front ≡ k → l ≡ front ++ rest → take k l ++ x ++ drop (k + w) l ≡ front ++ x ++ drop w rest

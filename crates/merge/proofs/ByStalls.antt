@@ -23,3 +23,6 @@ by-stall-next {d = d} {m = m} {f} {out} w l x e =
         | no i ↦ getD-set-other out m (r - 1) x d (λ j. omega arith) ∙ w .right r a (omega arith)
       ];
     }
+
+pub by-stall-end : {A : Type 0} {d : A} {width m : ℕ} {f : ℕ → A} {out : List A} (n : ℕ) → m ≡ n → ByStall d width m f out → ByStall d width n f out
+by-stall-end {d = d} {width} {f = f} {out} n e w = rw e at w

@@ -1,60 +1,125 @@
--- The verdicts that the code finds by masks are those of the tables.
-use Prim.Native.Nat.{ℕ, suc, _+_, _-_, _≤_, _<_}
-use mathlib.Core.Path.{_≡_, ap, subst, _∙_}
-use mathlib.Core.Bool.{_||_, not}
+-- The verdicts that the code finds as sets are those of the tables.
+use Prim.Native.Nat.{ℕ, _-_}
+use mathlib.Core.Path.{_≡_, refl, ap, ap₂, _∙_}
 use mathlib.Core.List.{List}
-use native.Mathlib.Omega.{arith}
-use lib.Bits.{bitAnd}
+use mathlib.Core.Bool.{Bool, true, false, _&&_, _||_, not, cond, Bool·not-not, or-false}
+use lib.Bits.{bitAnd, bitOr}
 use lib.Dec.{eqb}
-use lib.ListN.{getD}
 use Rattle.image.specs.Stalls.{bits, has}
-use Rattle.image.specs.Layout.{orderPlace, orderAt, nameAt, markAt}
-use Rattle.image.specs.Frame.{Framed}
-use Rattle.image.specs.Row.{isNever, neverAt, ownRow}
-use Rattle.image.specs.Encode.{tableOf}
-use Rattle.image.specs.declared.Entry.{Entry}
+use Rattle.image.specs.Layout.{rowPlace, orderAt, nameAt, markAt}
+use Rattle.image.specs.Encode.{Table, tableOf}
+use Rattle.image.specs.Row.{isNever}
+use Rattle.image.specs.declared.Name.{Name}
 use Rattle.image.proofs.Bits.{common-test}
-use Rattle.image.proofs.OwnRow.{own-row-name}
+use Rattle.image.proofs.Encoding.{bits-agree}
+use Rattle.image.proofs.StallSets.{and-bits, or-bits, without-bits}
+use Rattle.merge.specs.declared.View.{View}
+use Rattle.merge.specs.declared.Decided.{Decided}
 use Rattle.merge.specs.Known.{common, known}
 use Rattle.merge.specs.Verdict.{sameName, judge, verdict}
-use Rattle.merge.specs.Rows.{nameIn}
-use Rattle.merge.proofs.Agreeing.{known-agree}
+use Rattle.merge.specs.Views.{rowName, Views, Decides}
 
--- One head's latest of r is known to the other, by bytes
+-- The latests that are known to the other, as a set: x is what the own row shows, and order gives the order marks of each stall
 
-module _ (s u : List ℕ) (n p q : ℕ) (f : Framed s n p) (g : Framed u n q) (mine theirs : List Entry) (e : mine ≡ ownRow s n p) (i : theirs ≡ ownRow u n q) where
-  pub mine-name : (c : ℕ) → 1 ≤ c → c ≤ n → nameIn mine c ≡ nameAt s n p c
-  mine-name c a b = ap (λ w. nameIn w c) e ∙ own-row-name s n p f c a b
+pub known-set : (n : ℕ) (mine theirs : ℕ → Name) (order : ℕ → ℕ) (x : View) → Views n mine theirs n x → (all marked : ℕ)
+    → all ≡ bits n (λ s. true) → marked ≡ bits n (λ r. not (eqb (bitAnd (order r) (x .common)) 0))
+    → bitOr (all - bitAnd all (x .heard)) marked ≡ bits n (λ r. known n mine (has (order r)) theirs r)
+unfolding known
+known-set n mine theirs order x w all marked e i =
+    rw (e, i, w .heard-is, w .common-is, without-bits n (λ s. true) (λ c. not (isNever (mine c))))
+    (or-bits n (λ s. not (not (isNever (mine s)))) (λ r. not (eqb (bitAnd (order r) (bits n (common n mine theirs))) 0))
+    ∙ bits-agree n _ _ (λ r a b. ap₂ _||_ (Bool·not-not (isNever (mine r))) (common-test n (order r) (common n mine theirs))))
 
-  theirs-name : (c : ℕ) → 1 ≤ c → c ≤ n → nameIn theirs c ≡ nameAt u n q c
-  theirs-name c a b = ap (λ w. nameIn w c) i ∙ own-row-name u n q g c a b
+-- The verdicts, by whether the first's latest is known, the second's, and whether they have the same name
 
-  pub known-bytes : (r order mask : ℕ) → 1 ≤ r → r ≤ n → order ≡ orderAt s n r → mask ≡ bits n (common n (nameIn mine) (nameIn theirs))
-      → (isNever (nameIn mine r) || not (eqb (bitAnd order mask) 0)) ≡ known n (nameAt s n p) (markAt s n r) (nameAt u n q) r
-  unfolding known markAt
-  known-bytes r order mask a b j k =
-      ap (λ z. isNever (nameIn mine r) || z) (ap (λ z. not (eqb (bitAnd order z) 0)) k ∙ common-test n order (common n (nameIn mine) (nameIn theirs)))
-      ∙ known-agree n (nameIn mine) (nameAt s n p) (nameIn theirs) (nameAt u n q) (has order) (markAt s n r) mine-name theirs-name (λ t c d. ap (λ z. has z t) j) r a b
+judge-one : (x y s : Bool) → (y && not x) ≡ eqb (judge x y s) 1
+judge-one true true true = refl
+judge-one true true false = refl
+judge-one true false s = refl
+judge-one false true s = refl
+judge-one false false s = refl
 
-pub verdict-bytes : (s u : List ℕ) (n p q : ℕ) → Framed s n p → Framed u n q → (mine theirs : List Entry) → mine ≡ ownRow s n p → theirs ≡ ownRow u n q
-    → (r order other mask back : ℕ) → 1 ≤ r → r ≤ n → order ≡ orderAt s n r → other ≡ orderAt u n r
-    → mask ≡ bits n (common n (nameIn mine) (nameIn theirs)) → back ≡ bits n (common n (nameIn theirs) (nameIn mine))
-    → judge (isNever (nameIn mine r) || not (eqb (bitAnd order mask) 0)) (isNever (nameIn theirs r) || not (eqb (bitAnd other back) 0)) (sameName (nameIn mine r) (nameIn theirs r))
-    ≡ verdict n p (tableOf s n) q (tableOf u n) r
-unfolding verdict tableOf
-verdict-bytes s u n p q f g mine theirs e i r order other mask back a b j k m w =
-    rw (known-bytes s u n p q f g mine theirs e i r order mask a b j m, known-bytes u s n q p g f theirs mine i e r other back a b k w, mine-name s u n p q f g mine theirs e i r a b, mine-name u s n q p g f theirs mine i e r a b)
+judge-two : (x y s : Bool) → (x && not y) ≡ eqb (judge x y s) 2
+judge-two true true true = refl
+judge-two true true false = refl
+judge-two true false s = refl
+judge-two false true s = refl
+judge-two false false s = refl
 
--- the same with places that count from 0
-pub verdict-next : (s u : List ℕ) (n p q : ℕ) → Framed s n p → Framed u n q → (mine theirs : List Entry) → mine ≡ ownRow s n p → theirs ≡ ownRow u n q
-    → (r at order other mask back x : ℕ) → r < n → at ≡ orderPlace n (r + 1) → order ≡ getD s at 0 → other ≡ getD u at 0
-    → mask ≡ bits n (common n (nameIn mine) (nameIn theirs)) → back ≡ bits n (common n (nameIn theirs) (nameIn mine))
-    → x ≡ judge (isNever (getD mine r (neverAt 0) .name) || not (eqb (bitAnd order mask) 0)) (isNever (getD theirs r (neverAt 0) .name) || not (eqb (bitAnd other back) 0)) (sameName (getD mine r (neverAt 0) .name) (getD theirs r (neverAt 0) .name))
-    → x ≡ verdict n p (tableOf s n) q (tableOf u n) (suc r)
-verdict-next s u n p q f g mine theirs e i r at order other mask back x l a j k m w d =
-    let down : suc r - 1 ≡ r = omega arith in
-    let place : at ≡ orderPlace n (suc r) = omega arith in
-    d ∙ subst
-    (λ z. judge (isNever (getD mine z (neverAt 0) .name) || not (eqb (bitAnd order mask) 0)) (isNever (getD theirs z (neverAt 0) .name) || not (eqb (bitAnd other back) 0)) (sameName (getD mine z (neverAt 0) .name) (getD theirs z (neverAt 0) .name)) ≡ verdict n p (tableOf s n) q (tableOf u n) (suc r))
-    down
-    (verdict-bytes s u n p q f g mine theirs e i (suc r) order other mask back (omega arith) l (j ∙ ap (λ z. getD s z 0) place) (k ∙ ap (λ z. getD u z 0) place) m w)
+judge-nine : (x y s : Bool) → (not (x || y) || (x && y) && not s) ≡ eqb (judge x y s) 9
+judge-nine true true true = refl
+judge-nine true true false = refl
+judge-nine true false s = refl
+judge-nine false true s = refl
+judge-nine false false s = refl
+
+-- one of two tests
+choice : (h k t : Bool) → (h && not t || k && t) ≡ cond t k h
+choice true true true = refl
+choice true false true = refl
+choice false true true = refl
+choice false false true = refl
+choice true true false = refl
+choice true false false = refl
+choice false true false = refl
+choice false false false = refl
+
+module _ (n p : ℕ) (a : Table) (q : ℕ) (b : Table) where
+  -- the first's latest of r is known to the second, and the second's to the first
+  abbrev pub firstKnown : ℕ → Bool
+  firstKnown r = known n (a .names p) (a .order r) (b .names q) r
+
+  abbrev pub secondKnown : ℕ → Bool
+  secondKnown r = known n (b .names q) (b .order r) (a .names p) r
+
+  abbrev pub same : ℕ → Bool
+  same r = sameName (a .names p r) (b .names q r)
+
+  pub decides : (x y : View) → Views n (a .names p) (b .names q) n x → Views n (b .names q) (a .names p) n y → (all first second : ℕ)
+      → all ≡ bits n (λ s. true) → first ≡ bits n firstKnown → second ≡ bits n secondKnown → (d : Decided)
+      → d .one ≡ second - bitAnd second first → d .two ≡ first - bitAnd first second
+      → d .nine ≡ bitOr (all - bitAnd all (bitOr first second)) (bitAnd first second - bitAnd (bitAnd first second) (x .same))
+      → d .heard ≡ bitOr (x .heard - bitAnd (x .heard) (d .two)) (bitAnd (y .heard) (d .two))
+      → Decides n p a q b d
+  unfolding verdict
+  decides x y v w all first second e f g d one two nine heard =
+      record {
+        one-is = one ∙ rw (f, g) (without-bits n secondKnown firstKnown ∙ bits-agree n _ _ (λ r i j. judge-one (firstKnown r) (secondKnown r) (same r)));
+        two-is = two-is;
+        nine-is =
+            nine
+            ∙ rw (e, f, g, v .same-is, or-bits n firstKnown secondKnown, and-bits n firstKnown secondKnown, without-bits n (λ s. true) (λ r. firstKnown r || secondKnown r), without-bits n (λ r. firstKnown r && secondKnown r) same)
+            (or-bits n (λ r. not (firstKnown r || secondKnown r)) (λ r. (firstKnown r && secondKnown r) && not (same r))
+            ∙ bits-agree n _ _ (λ r i j. judge-nine (firstKnown r) (secondKnown r) (same r)));
+        heard-is =
+            heard
+            ∙ rw (two-is, v .heard-is, w .heard-is, without-bits n (λ r. not (isNever (a .names p r))) isTwo, and-bits n (λ r. not (isNever (b .names q r))) isTwo)
+            (or-bits n (λ r. not (isNever (a .names p r)) && not (isTwo r)) (λ r. not (isNever (b .names q r)) && isTwo r)
+            ∙ bits-agree n _ _ (λ r i j. choice (not (isNever (a .names p r))) (not (isNever (b .names q r))) (isTwo r)));
+      }
+    where
+      isTwo : ℕ → Bool
+      isTwo r = eqb (judge (firstKnown r) (secondKnown r) (same r)) 2
+
+      two-is : d .two ≡ bits n isTwo
+      two-is = two ∙ rw (f, g) (without-bits n firstKnown secondKnown ∙ bits-agree n _ _ (λ r i j. judge-two (firstKnown r) (secondKnown r) (same r)))
+
+-- The same of two images: own rows at i and j, looked at from both sides, and the stalls with a mark to a common column
+pub verdict-sets : (s u : List ℕ) (n m p q i j : ℕ) (x y : View) → m ≡ n → i ≡ rowPlace n p → j ≡ rowPlace n q
+    → Views n (rowName s i) (rowName u j) n x → Views n (rowName u j) (rowName s i) n y
+    → (all v e w f : ℕ) → all ≡ bits n (λ r. true)
+    → v ≡ all - bitAnd all (x .heard) → e ≡ bits m (λ r. not (eqb (bitAnd (orderAt s m r) (x .common)) 0))
+    → w ≡ all - bitAnd all (y .heard) → f ≡ bits m (λ r. not (eqb (bitAnd (orderAt u m r) (y .common)) 0))
+    → (d : Decided) → let first = bitOr v e in let second = bitOr w f in
+    d .one ≡ second - bitAnd second first → d .two ≡ first - bitAnd first second
+    → d .nine ≡ bitOr (all - bitAnd all (bitOr first second)) (bitAnd first second - bitAnd (bitAnd first second) (x .same))
+    → d .heard ≡ bitOr (x .heard - bitAnd (x .heard) (d .two)) (bitAnd (y .heard) (d .two))
+    → Decides n p (tableOf s n) q (tableOf u n) d
+unfolding tableOf nameAt markAt
+verdict-sets s u n m p q i j x y m-is i-is j-is a b all v e w f all-is v-is e-is w-is f-is d =
+    let a' = rw (i-is, j-is) at a in
+    let b' = rw (i-is, j-is) at b in
+    decides n p (tableOf s n) q (tableOf u n) x y a' b' all (bitOr v e) (bitOr w f) all-is
+    (ap (λ k. bitOr k e) v-is ∙ known-set n (tableOf s n .names p) (tableOf u n .names q) (orderAt s n) x a' all e all-is (rw m-is at e-is))
+    (ap (λ k. bitOr k f) w-is ∙ known-set n (tableOf u n .names q) (tableOf s n .names p) (orderAt u n) y b' all f all-is (rw m-is at f-is))
+    d

@@ -1,6 +1,8 @@
 -- The lemmas of `merge`. What crates above cite is `pub mod`.
 pub mod ByStalls
+pub mod Frames
 pub mod Commons
+pub mod Columns
 pub mod Agreeing
 pub mod Judging
 pub mod Marks

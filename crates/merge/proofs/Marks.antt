@@ -1,59 +1,60 @@
--- The order byte that is put together from sets is that of the merged marks.
-use Prim.Native.Nat.{ℕ, _^_, _≤_, _<_}
+-- The order marks that are put together from sets are those of the merged table.
+use Prim.Native.Nat.{ℕ, _-_, _^_, _≤_, _<_}
 use mathlib.Core.Path.{_≡_, refl, sym, ap, ap₂, _∙_}
 use mathlib.Core.Bool.{Bool, true, false, _&&_, _||_, not, cond, or-false, and-comm, false≢true}
 use native.Mathlib.Omega.{arith}
-use borrow.Author.Tests.{eqb-true, le-leb}
-use lib.Bits.{bitAnd, and-le-l, or-lt}
+use borrow.Author.Tests.{eqb-true}
+use lib.Bits.{bitAnd, bitOr, and-le-l, or-lt}
 use lib.Dec.{eqb}
 use lib.Pow.{pow-pos}
-use Rattle.image.specs.Stalls.{bits, has}
+use Rattle.image.specs.Stalls.{bits, has, bitOf}
+use Rattle.image.specs.Layout.{largest}
 use Rattle.image.specs.Encode.{Table}
 use Rattle.image.specs.Row.{isNever}
-use Rattle.image.proofs.Bits.{has-ext, has-and, has-or, has-zero, has-bits, bits-lt}
+use Rattle.image.proofs.Bits.{has-ext, has-and, has-or, has-zero, bits-lt}
 use Rattle.image.proofs.Encoding.{bits-agree}
+use Rattle.image.proofs.StallSets.{has-in, and-bits, or-bits, without-bits, one-bits}
 use Rattle.image.specs.declared.Name.the-variants.{With}
 use Rattle.merge.specs.Label.{newLabel}
+use Rattle.merge.specs.declared.Decided.{Decided}
 use Rattle.merge.specs.declared.Sets.{Sets}
 use Rattle.merge.specs.Verdict.{verdict}
 use Rattle.merge.specs.Merged.{isMet, supplier, supplierStall, latestName, mergedOrder}
-use Rattle.merge.specs.Orders.{Sorted, orderOf, heardFrom}
+use Rattle.merge.specs.Views.{heardFrom, Decides}
+use Rattle.merge.specs.Orders.{Sorted, apart, Sorts, sourceOf, orderOf}
 
--- The marks of r, stall by stall: m says that s met, f and g whether the verdict on r is 2 and 1, h and k the same of s, a and b whether the first and the second have
--- the mark, and d whether r was heard
+-- The mark (r, s): m says that r met, f and g whether the verdict on r is 2 and 1, o, h and k the same of s, a and b whether the first and the second have the mark,
+-- and d whether r is heard
 
-abbrev fromSets : Bool → Bool → Bool → Bool → Bool → Bool → Bool → Bool → Bool
-fromSets m f g h k a b d = (m && d) || (((not f && (not m && not h)) && a) || (cond g false (cond f (not m && not k) (not m && h)) && b))
+abbrev fromSets : Bool → Bool → Bool → Bool → Bool → Bool → Bool → Bool → Bool → Bool
+fromSets m f g o h k a b d =
+    (o && d) || ((((not m && not f) && (not o && not h)) && a) || (cond (not m && f) (not o && not k) ((not m && not g) && (not o && h)) && b))
 
-abbrev fromRule : Bool → Bool → Bool → Bool → Bool → Bool → Bool → Bool → Bool
-fromRule m f g h k a b d = cond m d (true && (not f && not h && a || not (not f && not h) && (not g && not k) && b))
+abbrev fromRule : Bool → Bool → Bool → Bool → Bool → Bool → Bool → Bool → Bool → Bool
+fromRule m f g o h k a b d = cond o d (not m && (not f && not h && a || not (not f && not h) && (not g && not k) && b))
 
-marks-test : (m f g h k a b d : Bool) → (h ≡ true → k ≡ true → ⊥) → fromSets m f g h k a b d ≡ fromRule m f g h k a b d
-marks-test true true true h k a b d w = or-false d
-marks-test true true false h k a b d w = or-false d
-marks-test true false true h k a b d w = or-false d
-marks-test true false false h k a b d w = or-false d
-marks-test false true true h k a b d w = refl
-marks-test false true false h true a b d w = refl
-marks-test false true false h false a b d w = refl
-marks-test false false true true k a b d w = refl
-marks-test false false true false k a b d w = refl
-marks-test false false false true true a b d w = absurd (w refl refl)
-marks-test false false false true false a b d w = refl
-marks-test false false false false k a b d w = refl
-
--- what sets of 1 to n have
-has-in : (n : ℕ) (f : ℕ → Bool) (s : ℕ) → 1 ≤ s → s ≤ n → has (bits n f) s ≡ f s
-has-in n f s a b = has-bits n f s a ∙ ap (λ t. t && f s) (le-leb s n b)
+marks-test : (m f g o h k a b d : Bool) → (f ≡ true → g ≡ true → ⊥) → (h ≡ true → k ≡ true → ⊥) → fromSets m f g o h k a b d ≡ fromRule m f g o h k a b d
+marks-test true f g true h k a b d v w = or-false d
+marks-test false true g true h k a b d v w = or-false d
+marks-test false false true true h k a b d v w = or-false d
+marks-test false false false true h k a b d v w = or-false d
+marks-test true f g false h k a b d v w = refl
+marks-test false true true false h k a b d v w = absurd (v refl refl)
+marks-test false true false false h true a b d v w = refl
+marks-test false true false false h false a b d v w = refl
+marks-test false false true false true k a b d v w = refl
+marks-test false false true false false k a b d v w = refl
+marks-test false false false false true true a b d v w = absurd (w refl refl)
+marks-test false false false false true false a b d v w = refl
+marks-test false false false false false k a b d v w = refl
 
 has-cond : (t : Bool) (x s : ℕ) → has (cond t x 0) s ≡ (t && has x s)
 has-cond true x s = refl
 has-cond false x s = has-zero s
 
-has-choice : (g f : Bool) (x y s : ℕ) → has (cond g 0 (cond f x y)) s ≡ cond g false (cond f (has x s) (has y s))
-has-choice true f x y s = has-zero s
-has-choice false true x y s = refl
-has-choice false false x y s = refl
+has-choice : (t : Bool) (x y s : ℕ) → has (cond t x y) s ≡ cond t (has x s) (has y s)
+has-choice true x y s = refl
+has-choice false x y s = refl
 
 cond-lt : (t : Bool) (x y n : ℕ) → x < n → y < n → cond t x y < n
 cond-lt true x y n a b = a
@@ -65,55 +66,78 @@ and-small x y n l = omega (arith, and-le-l x y)
 not-both : (x : ℕ) → eqb x 2 ≡ true → eqb x 1 ≡ true → ⊥
 not-both x e f = omega (arith, eqb-true x 2 e, eqb-true x 1 f)
 
-module _ (n p : ℕ) (a : Table) (q : ℕ) (b : Table) (v : ℕ → ℕ) (x : Sets) (w : Sorted n p q v n x)
-    (right : (s : ℕ) → 1 ≤ s → s ≤ n → v s ≡ verdict n p a q b s) (r : ℕ) (from : 1 ≤ r) (to : r ≤ n) (mine theirs : ℕ) (heard : Bool) where
-  -- one stall's bit
-  pub order-at : (s : ℕ) → 1 ≤ s → s ≤ n
-      → has (orderOf x (v r) mine theirs heard) s
-      ≡ fromSets (isMet p q s) (eqb (v r) 2) (eqb (v r) 1) (eqb (v s) 2) (eqb (v s) 1) (has mine s) (has theirs s) heard
-  order-at s c d =
-      has-or (cond heard (x .pair) 0) _ s c
-      ∙ ap₂ _||_ (has-cond heard (x .pair) s ∙ and-comm heard (has (x .pair) s) ∙ ap (λ t. t && heard) (ap (λ k. has k s) (w .pair-is) ∙ has-in n (isMet p q) s c d))
-      (has-or (bitAnd (cond (not (eqb (v r) 2)) (x .first) 0) mine) _ s c
-      ∙ ap₂ _||_
-      (has-and (cond (not (eqb (v r) 2)) (x .first) 0) mine s c
-      ∙ ap (λ t. t && has mine s) (has-cond (not (eqb (v r) 2)) (x .first) s ∙ ap (λ t. not (eqb (v r) 2) && t) (ap (λ k. has k s) (w .first-is) ∙ has-in n _ s c d)))
-      (has-and (cond (eqb (v r) 1) 0 (cond (eqb (v r) 2) (x .second) (x .alone))) theirs s c
-      ∙ ap (λ t. t && has theirs s) (has-choice (eqb (v r) 1) (eqb (v r) 2) (x .second) (x .alone) s
-      ∙ ap₂ (λ t u. cond (eqb (v r) 1) false (cond (eqb (v r) 2) t u)) (ap (λ k. has k s) (w .second-is) ∙ has-in n _ s c d) (ap (λ k. has k s) (w .alone-is) ∙ has-in n _ s c d))))
+module _ (n p : ℕ) (a : Table) (q : ℕ) (b : Table) (x : Sets) (w : Sorted n p a q b x) where
+  abbrev two : ℕ → Bool
+  two s = eqb (verdict n p a q b s) 2
 
-  order-small : orderOf x (v r) mine theirs heard < 2 ^ n
-  order-small =
-      let z : 0 < 2 ^ n = pow-pos n in
-      let pair : x .pair < 2 ^ n = rw (w .pair-is) (bits-lt n _) in
-      let first : x .first < 2 ^ n = rw (w .first-is) (bits-lt n _) in
-      let second : x .second < 2 ^ n = rw (w .second-is) (bits-lt n _) in
-      let alone : x .alone < 2 ^ n = rw (w .alone-is) (bits-lt n _) in
-      or-lt n _ _ (cond-lt heard (x .pair) 0 (2 ^ n) pair z)
-      (or-lt n _ _
-      (and-small (cond (not (eqb (v r) 2)) (x .first) 0) mine (2 ^ n) (cond-lt (not (eqb (v r) 2)) (x .first) 0 (2 ^ n) first z))
-      (and-small (cond (eqb (v r) 1) 0 (cond (eqb (v r) 2) (x .second) (x .alone))) theirs (2 ^ n)
-      (cond-lt (eqb (v r) 1) 0 (cond (eqb (v r) 2) (x .second) (x .alone)) (2 ^ n) z (cond-lt (eqb (v r) 2) (x .second) (x .alone) (2 ^ n) second alone))))
+  abbrev one : ℕ → Bool
+  one s = eqb (verdict n p a q b s) 1
 
-  pub order-byte : isMet p q r ≡ false
-      → ((s : ℕ) → 1 ≤ s → s ≤ n → has mine s ≡ a .order r s) → ((s : ℕ) → 1 ≤ s → s ≤ n → has theirs s ≡ b .order r s)
-      → heard ≡ not (isNever (latestName n p a q b r)) → orderOf x (v r) mine theirs heard ≡ bits n (mergedOrder n p a q b r)
-  unfolding mergedOrder
-  order-byte apart hm ht hh =
-      has-ext n _ _ order-small (bits-lt n _)
-      (λ s c d.
-      order-at s c d
-      ∙ ap₂ (λ j k. fromSets (isMet p q s) (eqb (v r) 2) (eqb (v r) 1) (eqb (v s) 2) (eqb (v s) 1) j k heard) (hm s c d) (ht s c d)
-      ∙ marks-test (isMet p q s) (eqb (v r) 2) (eqb (v r) 1) (eqb (v s) 2) (eqb (v s) 1) (a .order r s) (b .order r s) heard (not-both (v s))
-      ∙ ap₂ (λ y z. fromRule (isMet p q s) (eqb y 2) (eqb y 1) (eqb z 2) (eqb z 1) (a .order r s) (b .order r s) heard) (right r from to) (right s c d)
-      ∙ ruled s
-      ∙ sym (has-in n (mergedOrder n p a q b r) s c d))
-    where
-      ruled : (s : ℕ) → fromRule (isMet p q s) (eqb (verdict n p a q b r) 2) (eqb (verdict n p a q b r) 1) (eqb (verdict n p a q b s) 2) (eqb (verdict n p a q b s) 1) (a .order r s) (b .order r s) heard
-          ≡ mergedOrder n p a q b r s
-      ruled s = rw (hh, apart)
+  first-at : (s : ℕ) → 1 ≤ s → s ≤ n → has (x .first) s ≡ (not (isMet p q s) && not (two s))
+  first-at s c d = ap (λ k. has k s) (w .first-is) ∙ has-in n _ s c d
 
--- The order byte of one of the two that met is the set of the two
+  second-at : (s : ℕ) → 1 ≤ s → s ≤ n → has (x .second) s ≡ (not (isMet p q s) && not (one s))
+  second-at s c d = ap (λ k. has k s) (w .second-is) ∙ has-in n _ s c d
+
+  alone-at : (s : ℕ) → 1 ≤ s → s ≤ n → has (x .alone) s ≡ (not (isMet p q s) && two s)
+  alone-at s c d = ap (λ k. has k s) (w .alone-is) ∙ has-in n _ s c d
+
+  pair-at : (s : ℕ) → 1 ≤ s → s ≤ n → has (x .pair) s ≡ isMet p q s
+  pair-at s c d = ap (λ k. has k s) (w .pair-is) ∙ has-in n (isMet p q) s c d
+
+  heard-at : (s : ℕ) → 1 ≤ s → s ≤ n → has (x .heard) s ≡ not (isNever (latestName n p a q b s))
+  heard-at s c d = ap (λ k. has k s) (w .heard-is) ∙ has-in n (λ s. not (isNever (latestName n p a q b s))) s c d
+
+  module _ (r : ℕ) (from : 1 ≤ r) (to : r ≤ n) (mine theirs : ℕ) where
+    source-at : (s : ℕ) → 1 ≤ s → s ≤ n
+        → has (sourceOf x r) s ≡ cond (not (isMet p q r) && two r) (not (isMet p q s) && not (one s)) ((not (isMet p q r) && not (one r)) && (not (isMet p q s) && two s))
+    source-at s c d =
+        has-choice (has (x .alone) r) (x .second) _ s
+        ∙ ap (λ t. cond (has (x .alone) r) (has (x .second) s) t) (has-cond (has (x .second) r) (x .alone) s)
+        ∙ (rw (alone-at r from to, second-at s c d, second-at r from to, alone-at s c d) refl)
+
+    -- one mark
+    order-at : (s : ℕ) → 1 ≤ s → s ≤ n
+        → has (orderOf x r mine theirs) s
+        ≡ fromSets (isMet p q r) (two r) (one r) (isMet p q s) (two s) (one s) (has mine s) (has theirs s) (not (isNever (latestName n p a q b r)))
+    order-at s c d =
+        has-or (cond (has (x .heard) r) (x .pair) 0) _ s c
+        ∙ ap₂ _||_
+        (has-cond (has (x .heard) r) (x .pair) s ∙ and-comm (has (x .heard) r) (has (x .pair) s) ∙ ap₂ _&&_ (pair-at s c d) (heard-at r from to))
+        (has-or (bitAnd (cond (has (x .first) r) (x .first) 0) mine) _ s c
+        ∙ ap₂ _||_
+        (has-and (cond (has (x .first) r) (x .first) 0) mine s c
+        ∙ ap (λ t. t && has mine s) (has-cond (has (x .first) r) (x .first) s ∙ ap₂ _&&_ (first-at r from to) (first-at s c d)))
+        (has-and (sourceOf x r) theirs s c
+        ∙ ap (λ t. t && has theirs s)
+        (source-at s c d)))
+
+    order-small : orderOf x r mine theirs < 2 ^ n
+    order-small =
+        let z : 0 < 2 ^ n = pow-pos n in
+        let pair : x .pair < 2 ^ n = rw (w .pair-is) (bits-lt n _) in
+        let first : x .first < 2 ^ n = rw (w .first-is) (bits-lt n _) in
+        let second : x .second < 2 ^ n = rw (w .second-is) (bits-lt n _) in
+        let alone : x .alone < 2 ^ n = rw (w .alone-is) (bits-lt n _) in
+        or-lt n _ _ (cond-lt (has (x .heard) r) (x .pair) 0 (2 ^ n) pair z)
+        (or-lt n _ _
+        (and-small (cond (has (x .first) r) (x .first) 0) mine (2 ^ n) (cond-lt (has (x .first) r) (x .first) 0 (2 ^ n) first z))
+        (and-small (sourceOf x r) theirs (2 ^ n)
+        (cond-lt (has (x .alone) r) (x .second) _ (2 ^ n) second (cond-lt (has (x .second) r) (x .alone) 0 (2 ^ n) alone z))))
+
+    pub order-is : ((s : ℕ) → 1 ≤ s → s ≤ n → has mine s ≡ a .order r s) → ((s : ℕ) → 1 ≤ s → s ≤ n → has theirs s ≡ b .order r s)
+        → orderOf x r mine theirs ≡ bits n (mergedOrder n p a q b r)
+    unfolding mergedOrder
+    order-is hm ht =
+        has-ext n _ _ order-small (bits-lt n _)
+        (λ s c d.
+        order-at s c d
+        ∙ ap₂ (λ j k. fromSets (isMet p q r) (two r) (one r) (isMet p q s) (two s) (one s) j k (not (isNever (latestName n p a q b r)))) (hm s c d) (ht s c d)
+        ∙ marks-test (isMet p q r) (two r) (one r) (isMet p q s) (two s) (one s) (a .order r s) (b .order r s) (not (isNever (latestName n p a q b r)))
+        (not-both (verdict n p a q b r)) (not-both (verdict n p a q b s))
+        ∙ sym (has-in n (mergedOrder n p a q b r) s c d))
+
+-- Which stalls are heard afterwards: the two that met, and those that the head they come from has heard
 
 met-named : (n p : ℕ) (a : Table) (q : ℕ) (b : Table) (r : ℕ) → isMet p q r ≡ true → isNever (latestName n p a q b r) ≡ false
 unfolding latestName
@@ -124,16 +148,6 @@ met-named n p a q b r e = go (eqb r p) (eqb r q) e
     go true g i = refl
     go false true i = refl
     go false false i = absurd (false≢true i)
-
-pub met-byte : (n p : ℕ) (a : Table) (q : ℕ) (b : Table) (r : ℕ) → isMet p q r ≡ true → bits n (isMet p q) ≡ bits n (mergedOrder n p a q b r)
-unfolding mergedOrder
-met-byte n p a q b r e = bits-agree n (isMet p q) (mergedOrder n p a q b r) (λ s c d. rw (met-named n p a q b r e, e) (go (isMet p q s)))
-  where
-    go : (m : Bool) → m ≡ cond m true false
-    go true = refl
-    go false = refl
-
--- A stall that did not meet has the name of the head that it comes from
 
 apart-name : (n p : ℕ) (a : Table) (q : ℕ) (b : Table) (r : ℕ) → isMet p q r ≡ false → latestName n p a q b r ≡ cond (eqb (verdict n p a q b r) 2) (b .names q r) (a .names p r)
 unfolding latestName
@@ -146,9 +160,33 @@ apart-name n p a q b r e = go (eqb r p) (eqb r q) (eqb (verdict n p a q b r) 2) 
     go false false true i = refl
     go false false false i = refl
 
-pub heard-is : (n p : ℕ) (a : Table) (q : ℕ) (b : Table) (r : ℕ) → isMet p q r ≡ false → heardFrom (verdict n p a q b r) (a .names p r) (b .names q r) ≡ not (isNever (latestName n p a q b r))
-heard-is n p a q b r e = rw (apart-name n p a q b r e) (go (eqb (verdict n p a q b r) 2))
+heard-after : (n p : ℕ) (a : Table) (q : ℕ) (b : Table) (r : ℕ)
+    → (isMet p q r || heardFrom (verdict n p a q b r) (a .names p r) (b .names q r)) ≡ not (isNever (latestName n p a q b r))
+heard-after n p a q b r = go (isMet p q r) refl
   where
-    go : (t : Bool) → cond t (not (isNever (b .names q r))) (not (isNever (a .names p r))) ≡ not (isNever (cond t (b .names q r) (a .names p r)))
-    go true = refl
-    go false = refl
+    from : (t : Bool) → cond t (not (isNever (b .names q r))) (not (isNever (a .names p r))) ≡ not (isNever (cond t (b .names q r) (a .names p r)))
+    from true = refl
+    from false = refl
+
+    go : (m : Bool) → isMet p q r ≡ m → (m || heardFrom (verdict n p a q b r) (a .names p r) (b .names q r)) ≡ not (isNever (latestName n p a q b r))
+    go true e = sym (ap not (met-named n p a q b r e))
+    go false e = rw (apart-name n p a q b r e) (from (eqb (verdict n p a q b r) 2))
+
+-- The stalls by who has them
+
+pub pair-bits : (n p q : ℕ) → (n ≤ largest) × (1 ≤ p) × (p ≤ n) × (1 ≤ q) × (q ≤ n) → {x y : ℕ} → x ≡ bitOf p → y ≡ bitOf q → bitOr x y ≡ bits n (isMet p q)
+pair-bits n p q w e f =
+    rw (e, f, one-bits n p (w .1) (w .2) (omega (arith, w .0)), one-bits n q (w .3) (w .4) (omega (arith, w .0))) (or-bits n (λ s. eqb s p) (λ s. eqb s q))
+
+pub apart-bits : (n p q : ℕ) {all pair others : ℕ} → all ≡ bits n (λ s. true) → pair ≡ bits n (isMet p q) → others ≡ all - bitAnd all pair → others ≡ apart n p q
+apart-bits n p q e f g = g ∙ rw (e, f) (without-bits n (λ s. true) (isMet p q))
+
+pub sorted-is : (n p : ℕ) (a : Table) (q : ℕ) (b : Table) (d : Decided) (x : Sets) → Decides n p a q b d → Sorts n p q d x → Sorted n p a q b x
+sorted-is n p a q b d x w v =
+    record {
+      pair-is = v .pair-is;
+      first-is = v .first-is ∙ rw (w .two-is) (without-bits n _ _);
+      second-is = v .second-is ∙ rw (w .one-is) (without-bits n _ _);
+      alone-is = v .alone-is ∙ rw (w .two-is) (and-bits n _ _);
+      heard-is = v .heard-is ∙ rw (v .pair-is, w .heard-is) (or-bits n _ _ ∙ bits-agree n _ _ (λ r i j. heard-after n p a q b r));
+    }

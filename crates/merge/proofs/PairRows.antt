@@ -6,14 +6,13 @@ use mathlib.Core.List.{List, [], _∷_, _++_}
 use native.Mathlib.Omega.{arith}
 use native.Mathlib.Numerals.{add-one}
 use lib.Dec.{eqb}
-use lib.ListN.{length, getD, drop, set, replicate, length-append, length-replicate}
+use lib.ListN.{length, drop, set, replicate, length-append, length-replicate}
 use lib.Seq.{sets-eq, take-at, drop-append-add}
 use Rattle.image.specs.Layout.{largest, longestRow}
 use Rattle.image.specs.Stalls.{each}
 use Rattle.image.proofs.Has.{length-each}
 use Rattle.merge.specs.declared.pairs.Pair.{Pair}
 use Rattle.merge.specs.declared.pairs.Side.{Side}
-use Rattle.merge.specs.Judged.{verdictIn}
 use Rattle.merge.specs.Body.{pairAt, pairBytes, padded, mixedPair}
 use Rattle.merge.proofs.Copies.{drop-zeros}
 
@@ -53,20 +52,20 @@ module _ (f : ℕ → List ℕ) (wide : (r : ℕ) → length (f r) ≡ 2) where
       ∙ ap₂ (λ p q. p ++ (x ∷ y ∷ []) ++ q) (take-at (each k f) (replicate (longestRow - k * 2) 0) (k * 2) (length-each 2 f wide k)) (rest k)
       ∙ ap (λ r. each k f ++ r ++ replicate (longestRow - suc k * 2) 0) g)
 
-module _ (s : List ℕ) (a : Side) (u : List ℕ) (b : Side) (v : ℕ → ℕ) where
-  pub mixed-wide : (r : ℕ) → length (mixedPair s a u b v r) ≡ 2
+module _ (s : List ℕ) (a : Side) (u : List ℕ) (b : Side) (t : ℕ → Bool) where
+  pub mixed-wide : (r : ℕ) → length (mixedPair s a u b t r) ≡ 2
   unfolding mixedPair
   mixed-wide r =
       length-choice 2 (pairBytes (a .own)) _ (eqb r (a .stall)) refl
       (length-choice 2 (pairBytes (b .own)) _ (eqb r (b .stall)) refl
-      (length-choice 2 (pairAt u (b .at + (r - 1) * 2)) (pairAt s (a .at + (r - 1) * 2)) (eqb (v r) 2) refl refl))
+      (length-choice 2 (pairAt u (b .at + (r - 1) * 2)) (pairAt s (a .at + (r - 1) * 2)) (t r) refl refl))
 
 -- the pair of stall k + 1
-pub mixed-at : (s : List ℕ) (a : Side) (u : List ℕ) (b : Side) (l : List ℕ) (k : ℕ) (x : Pair)
-    → pairBytes x ≡ cond (eqb (k + 1) (a .stall)) (pairBytes (a .own)) (cond (eqb (k + 1) (b .stall)) (pairBytes (b .own)) (cond (eqb (getD l k 0) 2) (pairAt u (b .at + (k + k))) (pairAt s (a .at + (k + k)))))
-    → pairBytes x ≡ mixedPair s a u b (verdictIn l) (suc k)
+pub mixed-at : (s : List ℕ) (a : Side) (u : List ℕ) (b : Side) (t : ℕ → Bool) (k : ℕ) (theirs : Bool) (x : Pair) → theirs ≡ t (suc k)
+    → pairBytes x ≡ cond (eqb (k + 1) (a .stall)) (pairBytes (a .own)) (cond (eqb (k + 1) (b .stall)) (pairBytes (b .own)) (cond theirs (pairAt u (b .at + (k + k))) (pairAt s (a .at + (k + k)))))
+    → pairBytes x ≡ mixedPair s a u b t (suc k)
 unfolding mixedPair
-mixed-at s a u b l k x e =
+mixed-at s a u b t k theirs x f e =
     let i : suc k - 1 ≡ k = omega arith in
     let j : k * 2 ≡ k + k = omega arith in
-    rw (i, j, ← add-one k) e
+    rw (i, j) (rw (add-one k, f) at e)

@@ -1,7 +1,7 @@
 -- What both images hold after a meeting from byte 4 on, said of bytes: for the functions that build and write it. `Merged` says what it means.
--- s and u are the images of the heads at stalls p and q, v gives the verdict on each stall, and k is the label.
+-- s and u are the images of the heads at stalls p and q, t tells which stalls come from the second, and k is the label.
 use Prim.Native.Nat.{ℕ, _+_, _-_, _*_}
-use mathlib.Core.Bool.{_||_, cond}
+use mathlib.Core.Bool.{Bool, _||_, cond}
 use mathlib.Core.List.{List, [], _∷_, _++_}
 use lib.Dec.{eqb}
 use lib.ListN.{getD, take, drop, replicate}
@@ -13,32 +13,32 @@ use Rattle.merge.specs.declared.pairs.Pair.{Pair}
 use Rattle.merge.specs.declared.pairs.Side.{Side}
 
 -- the image that stall r comes from, and the stall of its head
-abbrev pub sourceOf : List ℕ → List ℕ → (ℕ → ℕ) → ℕ → List ℕ
-sourceOf s u v r = cond (eqb (v r) 2) u s
+abbrev pub sourceOf : List ℕ → List ℕ → (ℕ → Bool) → ℕ → List ℕ
+sourceOf s u t r = cond (t r) u s
 
-abbrev pub sourceStall : ℕ → ℕ → (ℕ → ℕ) → ℕ → ℕ
-sourceStall p q v r = cond (eqb (v r) 2) q p
+abbrev pub sourceStall : ℕ → ℕ → (ℕ → Bool) → ℕ → ℕ
+sourceStall p q t r = cond (t r) q p
 
 -- the two bytes at a place
 abbrev pub pairAt : List ℕ → ℕ → List ℕ
 pairAt s at = getD s at 0 ∷ getD s (at + 1) 0 ∷ []
 
 -- the new list of latests, column by column
-unfoldable pub latestPair : List ℕ → List ℕ → ℕ → ℕ → ℕ → ℕ → (ℕ → ℕ) → ℕ → List ℕ
-latestPair s u n p q k v c =
+unfoldable pub latestPair : List ℕ → List ℕ → ℕ → ℕ → ℕ → ℕ → (ℕ → Bool) → ℕ → List ℕ
+latestPair s u n p q k t c =
     cond (eqb c p) (q ∷ k ∷ [])
     (cond (eqb c q) (p ∷ k ∷ [])
-    (pairAt (sourceOf s u v c) (rowPlace n (sourceStall p q v c) + (c - 1) * 2)))
+    (pairAt (sourceOf s u t c) (rowPlace n (sourceStall p q t c) + (c - 1) * 2)))
 
 -- row r: the new list for the two that met, the row of the supplier for any other
-unfoldable pub bodyRow : List ℕ → List ℕ → ℕ → ℕ → ℕ → ℕ → (ℕ → ℕ) → ℕ → List ℕ
-bodyRow s u n p q k v r =
-    cond (eqb r p || eqb r q) (each n (latestPair s u n p q k v)) (take (n * 2) (drop (rowPlace n r) (sourceOf s u v r)))
+unfoldable pub bodyRow : List ℕ → List ℕ → ℕ → ℕ → ℕ → ℕ → (ℕ → Bool) → ℕ → List ℕ
+bodyRow s u n p q k t r =
+    cond (eqb r p || eqb r q) (each n (latestPair s u n p q k t)) (take (n * 2) (drop (rowPlace n r) (sourceOf s u t r)))
 
 -- the yield of stall r: the current one for the two that met
-unfoldable pub bodyYield : List ℕ → List ℕ → ℕ → ℕ → ℕ → (ℕ → ℕ) → ℕ → List ℕ
-bodyYield s u n p q v r =
-    cond (eqb r p) (pairAt s 2) (cond (eqb r q) (pairAt u 2) (pairAt (sourceOf s u v r) (yieldPlace n r)))
+unfoldable pub bodyYield : List ℕ → List ℕ → ℕ → ℕ → ℕ → (ℕ → Bool) → ℕ → List ℕ
+bodyYield s u n p q t r =
+    cond (eqb r p) (pairAt s 2) (cond (eqb r q) (pairAt u 2) (pairAt (sourceOf s u t r) (yieldPlace n r)))
 
 -- two bytes a stall for n stalls, with zeros behind them to 16 bytes
 abbrev pub padded : ℕ → List ℕ → List ℕ
@@ -51,17 +51,17 @@ rowIn rows n r = take (n * 2) (getD rows (r - 1) [])
 abbrev pub pairBytes : Pair → List ℕ
 pairBytes x = x .high ∷ x .low ∷ []
 
--- column c of two bytes a stall: a head's own pair in its own column, in any other the pair that stands there in the image that the verdict points to
-unfoldable pub mixedPair : List ℕ → Side → List ℕ → Side → (ℕ → ℕ) → ℕ → List ℕ
-mixedPair s a u b v c =
+-- column c of two bytes a stall: a head's own pair in its own column, in any other the pair that stands there in the image that the stall comes from
+unfoldable pub mixedPair : List ℕ → Side → List ℕ → Side → (ℕ → Bool) → ℕ → List ℕ
+mixedPair s a u b t c =
     cond (eqb c (a .stall)) (pairBytes (a .own))
     (cond (eqb c (b .stall)) (pairBytes (b .own))
-    (cond (eqb (v c) 2) (pairAt u (b .at + (c - 1) * 2)) (pairAt s (a .at + (c - 1) * 2))))
+    (cond (t c) (pairAt u (b .at + (c - 1) * 2)) (pairAt s (a .at + (c - 1) * 2))))
 
 -- d, the image of a head that met, with rows, yields and order bytes as the meeting leaves them
-abbrev pub imageAfter : List ℕ → List ℕ → List ℕ → ℕ → ℕ → ℕ → ℕ → (ℕ → ℕ) → List ℕ
-imageAfter d s u n p q k v =
+abbrev pub imageAfter : List ℕ → List ℕ → List ℕ → ℕ → ℕ → ℕ → ℕ → (ℕ → Bool) → List ℕ
+imageAfter d s u n p q k t =
     take 4 d
-    ++ each n (bodyRow s u n p q k v)
-    ++ each n (bodyYield s u n p q v)
+    ++ each n (bodyRow s u n p q k t)
+    ++ each n (bodyYield s u n p q t)
     ++ each n (λ r. bits n (mergedOrder n p (tableOf s n) q (tableOf u n) r) ∷ [])

@@ -16,11 +16,6 @@ sameMeeting c (With m) d Never = false
 sameMeeting c (With m) d (With k) =
     eqb (m .label) (k .label) && (eqb c d && eqb (m .partner) (k .partner) || eqb c (k .partner) && eqb (m .partner) d)
 
--- the partner of a name, 0 for none
-abbrev pub partnerIn : Name → ℕ
-partnerIn Never = 0
-partnerIn (With m) = m .partner
-
 -- the name in column s of one own row names a meeting that another own row names too
 unfoldable pub common : ℕ → (ℕ → Name) → (ℕ → Name) → ℕ → Bool
 common n mine theirs s = some n (λ d. sameMeeting s (mine s) d (theirs d))

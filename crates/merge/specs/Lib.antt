@@ -9,8 +9,7 @@ pub mod Examples
 pub mod CallExamples
 -- What the functions of `merge` say to each other. No caller sees this.
 pub mod ByStall
-pub mod Rows
-pub mod Judged
+pub mod Views
 pub mod LabelSet
 pub mod Body
 pub mod Orders

@@ -1,36 +1,49 @@
 -- Sets of stalls that the order marks are put together from, for the functions that do it. `Merged` says what the marks are.
--- v gives the verdict on each stall.
-use Prim.Native.Nat.{ℕ}
+use Prim.Native.Nat.{ℕ, _-_}
 use mathlib.Core.Path.{_≡_}
-use mathlib.Core.Bool.{Bool, _&&_, not, cond}
-use lib.Bits.{bitAnd, bitOr}
+use mathlib.Core.Bool.{_&&_, not, cond}
 use mathlib.Core.List.{List}
+use lib.Bits.{bitAnd, bitOr}
 use lib.Dec.{eqb}
 use Rattle.image.specs.Layout.{longestRow}
-use Rattle.image.specs.Stalls.{bits}
-use Rattle.image.specs.Encode.{tableOf}
+use Rattle.image.specs.Stalls.{bits, has}
+use Rattle.image.specs.Encode.{Table, tableOf}
 use Rattle.image.specs.Row.{isNever}
-use Rattle.image.specs.declared.Name.{Name}
-use Rattle.merge.specs.Merged.{isMet, mergedOrder}
+use Rattle.merge.specs.Verdict.{verdict}
+use Rattle.merge.specs.Merged.{isMet, latestName, mergedOrder}
 use Rattle.merge.specs.ByStall.{ByStall}
+use Rattle.merge.specs.declared.Decided.{Decided}
 use Rattle.merge.specs.declared.Sets.{Sets}
 
--- the two that met; of the others those that the first has, that the second has, and that the second alone has
-pub record Sorted (n p q : ℕ) (v : ℕ → ℕ) (m : ℕ) (x : Sets) : Type 0 where
-  pub pair-is : x .pair ≡ bits m (isMet p q)
-  pub first-is : x .first ≡ bits m (λ s. not (isMet p q s) && not (eqb (v s) 2))
-  pub second-is : x .second ≡ bits m (λ s. not (isMet p q s) && not (eqb (v s) 1))
-  pub alone-is : x .alone ≡ bits m (λ s. not (isMet p q s) && eqb (v s) 2)
+-- the two that met; of the others those that the first has, that the second has, and that the second alone has; and all that are heard afterwards
+pub record Sorted (n p : ℕ) (a : Table) (q : ℕ) (b : Table) (x : Sets) : Type 0 where
+  pub pair-is : x .pair ≡ bits n (isMet p q)
+  pub first-is : x .first ≡ bits n (λ s. not (isMet p q s) && not (eqb (verdict n p a q b s) 2))
+  pub second-is : x .second ≡ bits n (λ s. not (isMet p q s) && not (eqb (verdict n p a q b s) 1))
+  pub alone-is : x .alone ≡ bits n (λ s. not (isMet p q s) && eqb (verdict n p a q b s) 2)
+  pub heard-is : x .heard ≡ bits n (λ s. not (isNever (latestName n p a q b s)))
 
--- the order byte of a stall that did not meet, by its verdict and both order bytes
-abbrev pub orderOf : Sets → ℕ → ℕ → ℕ → Bool → ℕ
-orderOf x v mine theirs heard =
-    bitOr (cond heard (x .pair) 0)
-    (bitOr (bitAnd (cond (not (eqb v 2)) (x .first) 0) mine) (bitAnd (cond (eqb v 1) 0 (cond (eqb v 2) (x .second) (x .alone))) theirs))
+-- the stalls that did not meet
+abbrev pub apart : ℕ → ℕ → ℕ → ℕ
+apart n p q = bits n (λ s. not (isMet p q s))
 
--- a stall that did not meet was heard by the head that it comes from
-abbrev pub heardFrom : ℕ → Name → Name → Bool
-heardFrom v x y = cond (eqb v 2) (not (isNever y)) (not (isNever x))
+-- the same by the sets of the verdicts
+pub record Sorts (n p q : ℕ) (d : Decided) (x : Sets) : Type 0 where
+  pub pair-is : x .pair ≡ bits n (isMet p q)
+  pub first-is : x .first ≡ apart n p q - bitAnd (apart n p q) (d .two)
+  pub second-is : x .second ≡ apart n p q - bitAnd (apart n p q) (d .one)
+  pub alone-is : x .alone ≡ bitAnd (apart n p q) (d .two)
+  pub heard-is : x .heard ≡ bitOr (x .pair) (d .heard)
+
+-- the stalls whose marks stall r takes from the second
+abbrev pub sourceOf : Sets → ℕ → ℕ
+sourceOf x r = cond (has (x .alone) r) (x .second) (cond (has (x .second) r) (x .alone) 0)
+
+-- the order marks of stall r, by those that it has in both images
+abbrev pub orderOf : Sets → ℕ → ℕ → ℕ → ℕ
+orderOf x r mine theirs =
+    bitOr (cond (has (x .heard) r) (x .pair) 0)
+    (bitOr (bitAnd (cond (has (x .first) r) (x .first) 0) mine) (bitAnd (sourceOf x r) theirs))
 
 -- the order bytes of the first m stalls after images s and u met
 abbrev pub Ordered : List ℕ → List ℕ → ℕ → ℕ → ℕ → ℕ → List ℕ → Type 0

@@ -1,57 +1,29 @@
-// What two heads that meet know of each other's latests, and the verdicts.
+// What two heads that meet know of each other's latests, and the verdicts, as sets of stalls.
 ghost use mathlib.Core.Path.{_≡_};
-ghost use Prim.Native.Nat.{_≤_};
-ghost use mathlib.Core.Bool.{_||_, not};
-ghost use lib.Bits.{bitAnd};
+ghost use Prim.Native.Nat.{_+_, _-_, _*_, _≤_, _<_};
+ghost use mathlib.Core.Bool.{true, not};
+ghost use lib.Bits.{bitAnd, bitOr};
 ghost use lib.Dec.{eqb};
 ghost use lib.ListN.{length};
-ghost use Rattle.image.specs.Stalls.{some, bits};
-ghost use Rattle.image.specs.Layout.{largest};
-ghost use Rattle.image.specs.Frame.{Framed};
-ghost use Rattle.image.specs.Row.{isNever, ownRow};
-ghost use Rattle.merge.specs.Known.{sameMeeting, partnerIn, common};
-ghost use Rattle.merge.specs.Verdict.{sameName, judge};
-ghost use Rattle.merge.specs.Rows.{nameIn, lookIn};
-ghost use Rattle.merge.specs.Judged.{verdictIn, Judged};
+ghost use Rattle.image.specs.Stalls.{bits};
+ghost use Rattle.image.specs.Layout.{largest, orderAt};
+ghost use Rattle.image.specs.Encode.{tableOf};
+ghost use Rattle.image.specs.Frame.{Sized, Framed};
+ghost use Rattle.image.specs.Row.{isNever};
+ghost use Rattle.merge.specs.Verdict.{sameName};
+ghost use Rattle.merge.specs.Views.{partnerIn, labelIn, nameIn, rowName, across, shared, Views, Decides};
+use crate::Decided;
+use crate::Parties;
+use crate::Seen;
+use crate::View;
 use image::Entry;
 use image::Name;
-use image::STALLS;
 use image::bytes::orders_place;
+use image::bytes::row_place;
 use image::bytes::wide;
+use image::marks::bit_of;
 use image::marks::pick;
 use image::marks::widen;
-use image::rows::is_never;
-use image::rows::own_row;
-
-// Two names, read with their columns, name the same meeting.
-fn same_meeting(c: u8, x: Name, d: u8, y: Name) -> bool
-    ensures { λ r. ⌜ r ≡ sameMeeting c x d y ⌝ }
-{
-    match x {
-        Name::Never => false,
-        Name::With(m) => match y {
-            Name::Never => false,
-            Name::With(k) => {
-                (m.label == k.label)
-                    & (((c == d) & (m.partner == k.partner))
-                        | ((c == k.partner) & (m.partner == d)))
-            }
-        },
-    }
-}
-
-// Two names of one column are the same, or both none.
-fn same_name(x: Name, y: Name) -> bool
-    ensures { λ r. ⌜ r ≡ sameName x y ⌝ }
-{
-    match x {
-        Name::Never => is_never(y),
-        Name::With(m) => match y {
-            Name::Never => false,
-            Name::With(k) => (m.partner == k.partner) & (m.label == k.label),
-        },
-    }
-}
 
 // The partner of a name, 0 where there is none.
 fn partner_of(x: Name) -> u8
@@ -63,141 +35,154 @@ fn partner_of(x: Name) -> u8
     }
 }
 
-// The name in a column of an own row; outside 1 to n there is none.
-fn look(row: [Entry; STALLS], n: u8, c: u8) -> Name
-    requires { ⌜ (n ≤ largest) × (length row ≡ largest) ⌝ }
-    ensures { λ r. ⌜ r ≡ lookIn row n c ⌝ }
+// The label of a name, 0 where there is none.
+fn label_of(x: Name) -> u8
+    ensures { λ r. ⌜ r ≡ labelIn x ⌝ }
 {
-    if c < 1 {
-        return Name::Never;
+    match x {
+        Name::Never => 0,
+        Name::With(m) => m.label,
     }
-    if n < c {
-        return Name::Never;
-    }
-    let e = row[wide(c) - 1];
-    e.name
 }
 
-// The meeting that an own row names in column c is named in the other: it can stand there only in column c and in its partner's.
-fn is_common(mine: [Entry; STALLS], theirs: [Entry; STALLS], n: u8, c: u8) -> bool
-    requires { ⌜ (n ≤ largest) × (1 ≤ c) × (c ≤ n) × (length mine ≡ largest) × (length theirs ≡ largest) ⌝ }
-    ensures { λ r. ⌜ r ≡ common n (nameIn mine) (nameIn theirs) c ⌝ }
+// The record at a place.
+fn entry_at(image: &[u8], at: usize) -> Entry
+    requires { ⌜ at + 1 < length (now image) ⌝ }
+    ensures { λ r. ⌜ r .name ≡ nameIn (now (image .entry)) at ⌝ }
 {
-    let x = look(mine, n, c);
+    Entry {
+        name: image::name_from(image[at], image[at + 1]),
+    }
+}
+
+// How far behind the start of a row of n names the name in column d stands; 0 where there is no such column.
+fn across(n: u8, d: u8) -> usize
+    ensures { λ r. ⌜ r ≡ across n d ⌝ }
+{
+    if (1 <= d) & (d <= n) {
+        (wide(d) - 1) * 2
+    } else {
+        0
+    }
+}
+
+// Column c of an own row, at a, against the other own row, which starts at row and has its column c at b: the meeting can stand there only in column c and in its partner's.
+fn column(mine: &[u8], a: usize, theirs: &[u8], b: usize, row: usize, n: u8, c: u8) -> Seen
+    requires { ⌜ (a + 1 < length (now mine)) × (b + 1 < length (now theirs)) × (row + n * 2 ≤ length (now theirs)) × (1 ≤ n) × (1 ≤ c) ⌝ }
+    ensures { λ r.
+        ⌜ (r .common ≡ shared n c (nameIn (now (mine .entry)) a) (nameIn (now (theirs .entry)) b) (rowName (now (theirs .entry)) row))
+        × (r .heard ≡ not (isNever (nameIn (now (mine .entry)) a)))
+        × (r .same ≡ sameName (nameIn (now (mine .entry)) a) (nameIn (now (theirs .entry)) b)) ⌝ }
+{
+    let e = entry_at(mine, a);
+    let f = entry_at(theirs, b);
+    let x = e.name;
+    let y = f.name;
     let d = partner_of(x);
-    same_meeting(c, x, c, look(theirs, n, c)) | same_meeting(c, x, d, look(theirs, n, d))
+    let k = label_of(x);
+    let g = entry_at(theirs, row + across(n, d));
+    let z = g.name;
+    let heard = !(d == 0);
+    let same = (d == partner_of(y)) & (k == label_of(y));
+    let crossed = (d <= n) & ((partner_of(z) == c) & (label_of(z) == k));
+    Seen {
+        common: heard & (same | crossed),
+        heard,
+        same,
+    }
 }
 
-// The columns of an own row whose meetings the other own row names too.
-fn common_set(mine: [Entry; STALLS], theirs: [Entry; STALLS], n: u8) -> u64
-    requires { ⌜ (n ≤ largest) × (length mine ≡ largest) × (length theirs ≡ largest) ⌝ }
-    ensures { λ r. ⌜ r ≡ bits n (common n (nameIn mine) (nameIn theirs)) ⌝ }
+// One own row, which starts at a, against the other, which starts at b.
+fn view(mine: &[u8], a: usize, theirs: &[u8], b: usize, n: u8) -> View
+    requires { ⌜ (n ≤ largest) × (a + n * 2 ≤ length (now mine)) × (b + n * 2 ≤ length (now theirs)) ⌝ }
+    ensures { λ r. ⌜ Views n (rowName (now (mine .entry)) a) (rowName (now (theirs .entry)) b) n r ⌝ }
 {
-    let mut set = 0u64;
+    let mut common = 0u64;
+    let mut heard = 0u64;
+    let mut same = 0u64;
     let mut one = 1u64;
+    let mut here = a;
+    let mut there = b;
     let mut c = 1u8;
     while c <= n {
-        set += pick(is_common(mine, theirs, n, c), one);
+        let x = column(mine, here, theirs, there, b, n, c);
+        common += pick(x.common, one);
+        heard += pick(x.heard, one);
+        same += pick(x.same, one);
         one += one;
+        here += 2;
+        there += 2;
         c += 1;
     }
-    set
-}
-
-// A latest is known by its order byte and the common columns.
-fn is_known(x: Name, order: u64, set: u64) -> bool
-    ensures { λ r. ⌜ r ≡ (isNever x || not (eqb (bitAnd order set) 0)) ⌝ }
-{
-    is_never(x) | !((order & set) == 0)
-}
-
-fn judge(first: bool, second: bool, same: bool) -> u8
-    ensures { λ r. ⌜ r ≡ judge first second same ⌝ }
-{
-    if first {
-        if second {
-            if same {
-                return 0;
-            }
-            return 9;
-        }
-        return 2;
+    View {
+        common,
+        heard,
+        same,
     }
-    if second {
-        return 1;
-    }
-    9
 }
 
-// The verdict on one stall, by the names, order bytes and common columns of both.
-fn verdict_at(x: Entry, y: Entry, mine: u64, theirs: u64, set: u64, other: u64) -> u8
-    ensures { λ r.
-        ⌜ r
-        ≡ judge (isNever (x .name) || not (eqb (bitAnd mine set) 0)) (isNever (y .name) || not (eqb (bitAnd theirs other) 0)) (sameName (x .name) (y .name)) ⌝ }
+// The stalls with an order mark to one of a set.
+fn marked(image: &[u8], n: usize, set: u64) -> u64
+    requires { ⌜ Sized (now image) n ⌝ }
+    ensures { λ r. ⌜ r ≡ bits n (λ r. not (eqb (bitAnd (orderAt (now (image .entry)) n r) set) 0)) ⌝ }
 {
-    let a = x.name;
-    let b = y.name;
-    judge(
-        is_known(a, mine, set),
-        is_known(b, theirs, other),
-        same_name(a, b),
-    )
-}
-
-// The verdicts on all stalls.
-fn judge_all(
-    first: &[u8],
-    second: &[u8],
-    n: u8,
-    p: u8,
-    q: u8,
-    mine: [Entry; STALLS],
-    theirs: [Entry; STALLS],
-    set: u64,
-    other: u64,
-) -> [u8; STALLS]
-    requires { ⌜ Framed (now first) n p × Framed (now second) n q ⌝ }
-    requires { ⌜ (mine ≡ ownRow (now first) n p) × (theirs ≡ ownRow (now second) n q) ⌝ }
-    requires { ⌜ (set ≡ bits n (common n (nameIn mine) (nameIn theirs))) × (other ≡ bits n (common n (nameIn theirs) (nameIn mine))) ⌝ }
-    ensures { λ r. ⌜ Judged (now (first .entry)) (now (second .entry)) n p q n r ⌝ }
-{
-    let mut out = [0u8; STALLS];
-    let m = wide(n);
-    let mut at = orders_place(first.len(), m);
-    let mut r = 0usize;
-    while r < m {
-        let x = mine[r];
-        let y = theirs[r];
-        out[r] = verdict_at(x, y, widen(first[at]), widen(second[at]), set, other);
+    let mut out = 0u64;
+    let mut one = 1u64;
+    let mut at = orders_place(image.len(), n);
+    let mut r = 1usize;
+    while r <= n {
+        out += pick(!((widen(image[at]) & set) == 0), one);
+        one += one;
         at += 1;
         r += 1;
     }
     out
 }
 
-// The verdicts of a meeting.
-pub(crate) fn verdicts(first: &[u8], second: &[u8], n: u8, p: u8, q: u8) -> [u8; STALLS]
-    requires { ⌜ Framed (now first) n p × Framed (now second) n q ⌝ }
-    ensures { λ r. ⌜ Judged (now (first .entry)) (now (second .entry)) n p q n r ⌝ }
+// What a set has and another has not.
+pub(crate) fn without(a: u64, b: u64) -> u64
+    ensures { λ r. ⌜ r ≡ a - bitAnd a b ⌝ }
 {
-    let mine = own_row(first, n, p);
-    let theirs = own_row(second, n, q);
-    let set = common_set(mine, theirs, n);
-    let other = common_set(theirs, mine, n);
-    judge_all(first, second, n, p, q, mine, theirs, set, other)
+    a - (a & b)
 }
 
-// Some verdict is 9.
-pub(crate) fn is_undecided(out: [u8; STALLS], n: u8) -> bool
-    requires { ⌜ (n ≤ largest) × (length out ≡ largest) ⌝ }
-    ensures { λ b. ⌜ b ≡ some n (λ r. eqb (verdictIn out r) 9) ⌝ }
+// The set of all stalls.
+pub(crate) fn all_stalls(n: u8) -> u64
+    requires { ⌜ n ≤ largest ⌝ }
+    ensures { λ r. ⌜ r ≡ bits n (λ s. true) ⌝ }
 {
-    let m = wide(n);
-    let mut found = false;
-    let mut r = 1usize;
-    while r <= m {
-        found = (out[r - 1] == 9) | found;
-        r += 1;
+    bit_of(n + 1) - 1
+}
+
+// The verdicts, by whose latests are known: the first's to the second, and the second's to the first.
+fn decided(all: u64, first: u64, second: u64, x: View, y: View) -> Decided
+    ensures { λ r.
+        ⌜ (r .one ≡ second - bitAnd second first)
+        × (r .two ≡ first - bitAnd first second)
+        × (r .nine ≡ bitOr (all - bitAnd all (bitOr first second)) (bitAnd first second - bitAnd (bitAnd first second) (x .same)))
+        × (r .heard ≡ bitOr (x .heard - bitAnd (x .heard) (r .two)) (bitAnd (y .heard) (r .two))) ⌝ }
+{
+    let two = without(first, second);
+    Decided {
+        one: without(second, first),
+        two,
+        nine: without(all, first | second) | without(first & second, x.same),
+        heard: without(x.heard, two) | (y.heard & two),
     }
-    found
+}
+
+// The verdicts of a meeting.
+pub(crate) fn verdicts(first: &[u8], second: &[u8], x: Parties) -> Decided
+    requires { ⌜ Framed (now first) (x .n) (x .p) × Framed (now second) (x .n) (x .q) ⌝ }
+    ensures { λ r. ⌜ Decides (x .n) (x .p) (tableOf (now (first .entry)) (x .n)) (x .q) (tableOf (now (second .entry)) (x .n)) r ⌝ }
+{
+    let m = wide(x.n);
+    let mine = row_place(x.n, x.p);
+    let theirs = row_place(x.n, x.q);
+    let a = view(first, mine, second, theirs, x.n);
+    let b = view(second, theirs, first, mine, x.n);
+    let all = all_stalls(x.n);
+    let left = without(all, a.heard) | marked(first, m, a.common);
+    let right = without(all, b.heard) | marked(second, m, b.common);
+    decided(all, left, right, a, b)
 }

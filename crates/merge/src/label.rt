@@ -8,6 +8,7 @@ ghost use Rattle.image.specs.Encode.{tableOf};
 ghost use Rattle.image.specs.Frame.{Sized, Framed};
 ghost use Rattle.merge.specs.Label.{isMeeting, rowHas, lowestFrom, newLabel};
 ghost use Rattle.merge.specs.LabelSet.{labelSet, hasLabel, nameHas, Column};
+use crate::Parties;
 use image::bytes::wide;
 use image::marks::bit_of;
 use image::marks::pick;
@@ -56,11 +57,11 @@ fn used_labels(image: &[u8], n: usize, p: u8, q: u8) -> u64
     set
 }
 
-// The label of the meeting of the stalls p and q, by their images.
-pub(crate) fn new_label(first: &[u8], second: &[u8], n: u8, p: u8, q: u8) -> u8
-    requires { ⌜ Framed (now first) n p × Framed (now second) n q ⌝ }
-    ensures { λ r. ⌜ r ≡ newLabel n p (tableOf (now (first .entry)) n) q (tableOf (now (second .entry)) n) ⌝ }
+// The label of a meeting, by both images.
+pub(crate) fn new_label(first: &[u8], second: &[u8], x: Parties) -> u8
+    requires { ⌜ Framed (now first) (x .n) (x .p) × Framed (now second) (x .n) (x .q) ⌝ }
+    ensures { λ r. ⌜ r ≡ newLabel (x .n) (x .p) (tableOf (now (first .entry)) (x .n)) (x .q) (tableOf (now (second .entry)) (x .n)) ⌝ }
 {
-    let m = wide(n);
-    lowest_free(used_labels(first, m, p, q) | used_labels(second, m, p, q)) as u8
+    let m = wide(x.n);
+    lowest_free(used_labels(first, m, x.p, x.q) | used_labels(second, m, x.p, x.q)) as u8
 }

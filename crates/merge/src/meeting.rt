@@ -1,83 +1,93 @@
 // A meeting of two heads: refused by number, or both images and the verdicts written.
 ghost use mathlib.Core.Path.{_≡_};
-ghost use lib.ListN.{length, take};
+ghost use mathlib.Core.Bool.{cond};
+ghost use lib.ListN.{length};
 ghost use Rattle.image.specs.Frame.{Framed};
 ghost use Rattle.image.specs.Layout.{largest};
 ghost use Rattle.image.specs.Encode.{tableOf};
 ghost use Rattle.image.specs.Check.{checked};
 ghost use Rattle.image.specs.declared.Checked.the-variants.{Good};
-ghost use Rattle.merge.specs.Judged.{verdictIn, Judged};
+ghost use Rattle.image.specs.Stalls.{has};
+ghost use Rattle.merge.specs.ByStall.{ByStall};
+ghost use Rattle.merge.specs.Views.{Decides};
 ghost use Rattle.merge.specs.Label.{newLabel};
 ghost use Rattle.merge.specs.Body.{imageAfter};
 ghost use Rattle.merge.specs.Call.{MeetingOutcome, metTogether, meetingCall};
 ghost use Prim.Native.Nat.{_≤_};
-use crate::known::is_undecided;
+use crate::Decided;
+use crate::Parties;
 use crate::known::verdicts;
 use crate::label::new_label;
 use crate::orders::orders_after;
+use crate::pairs::has_stall;
 use crate::rows::merged_rows;
 use crate::write::copy_body;
 use crate::write::write_body;
 use crate::yields::merged_yields;
 use image::Checked;
-use image::STALLS;
 use image::bytes::wide;
 
 // Both images after the meeting, and its label. All is read before a byte is written.
-fn write_meeting(
-    first: &mut [u8],
-    second: &mut [u8],
-    n: u8,
-    p: u8,
-    q: u8,
-    verdicts: [u8; STALLS],
-) -> u8
-    requires { ⌜ Framed (now first) n p × Framed (now second) n q × Judged (now first) (now second) n p q n verdicts ⌝ }
+fn write_meeting(first: &mut [u8], second: &mut [u8], x: Parties, d: Decided) -> u8
+    requires { ⌜ Framed (now first) (x .n) (x .p) × Framed (now second) (x .n) (x .q) ⌝ }
+    requires { ⌜ Decides (x .n) (x .p) (tableOf (now first) (x .n)) (x .q) (tableOf (now second) (x .n)) d ⌝ }
     ensures { λ r.
-        ⌜ (r ≡ newLabel n p (tableOf (now (first .entry)) n) q (tableOf (now (second .entry)) n))
+        ⌜ (r ≡ newLabel (x .n) (x .p) (tableOf (now (first .entry)) (x .n)) (x .q) (tableOf (now (second .entry)) (x .n)))
         × (now (first .exit)
-        ≡ imageAfter (now (first .entry)) (now (first .entry)) (now (second .entry)) n p q r (verdictIn verdicts))
+        ≡ imageAfter (now (first .entry)) (now (first .entry)) (now (second .entry)) (x .n) (x .p) (x .q) r (has (d .two)))
         × (now (second .exit)
-        ≡ imageAfter (now (second .entry)) (now (first .entry)) (now (second .entry)) n p q r (verdictIn verdicts)) ⌝ }
+        ≡ imageAfter (now (second .entry)) (now (first .entry)) (now (second .entry)) (x .n) (x .p) (x .q) r (has (d .two))) ⌝ }
 {
-    let m = wide(n);
-    let k = new_label(first, second, n, p, q);
-    let rows = merged_rows(first, second, n, p, q, k, verdicts);
-    let yields = merged_yields(first, second, n, p, q, verdicts);
-    let orders = orders_after(first, second, n, p, q, verdicts);
-    write_body(first, m, rows, yields, orders);
+    let k = new_label(first, second, x);
+    let rows = merged_rows(first, second, x, k, d.two);
+    let yields = merged_yields(first, second, x, d.two);
+    let orders = orders_after(first, second, x, d);
+    write_body(first, wide(x.n), rows, yields, orders);
     copy_body(second, first);
     k
 }
 
+// The verdict byte of a stall that is not undecided.
+fn verdict_byte(one: bool, two: bool) -> u8
+    ensures { λ r. ⌜ r ≡ cond one 1 (cond two 2 0) ⌝ }
+{
+    if one {
+        return 1;
+    }
+    if two {
+        return 2;
+    }
+    0
+}
+
 // The verdicts into a buffer.
-fn write_verdicts(buffer: &mut [u8], verdicts: [u8; STALLS])
-    requires { ⌜ (length (now buffer) ≤ largest) × (length verdicts ≡ largest) ⌝ }
-    ensures { λ r. ⌜ now (buffer .exit) ≡ take (length (now (buffer .entry))) verdicts ⌝ }
+fn write_verdicts(buffer: &mut [u8], d: Decided)
+    requires { ⌜ length (now buffer) ≤ largest ⌝ }
+    ensures { λ r.
+        ⌜ ByStall 0 (length (now (buffer .entry))) (length (now (buffer .entry))) (λ r. cond (has (d .one) r) 1 (cond (has (d .two) r) 2 0)) (now (buffer .exit)) ⌝ }
 {
     let mut i = 0usize;
     while i < buffer.len() {
-        buffer[i] = verdicts[i];
+        buffer[i] = verdict_byte(has_stall(d.one, i), has_stall(d.two, i));
         i += 1;
     }
 }
 
 // The meeting of two accepted images of n heads with different stalls, and a buffer of n bytes.
-fn meet(first: &mut [u8], second: &mut [u8], n: u8, p: u8, q: u8, buffer: &mut [u8]) -> u32
-    requires { ⌜ (checked (now first) ≡ Good (record { n = n; stall = p })) × (checked (now second) ≡ Good (record { n = n; stall = q })) ⌝ }
-    requires { ⌜ length (now buffer) ≡ n ⌝ }
+fn meet(first: &mut [u8], second: &mut [u8], x: Parties, buffer: &mut [u8]) -> u32
+    requires { ⌜ (checked (now first) ≡ Good (record { n = x .n; stall = x .p })) × (checked (now second) ≡ Good (record { n = x .n; stall = x .q })) ⌝ }
+    requires { ⌜ length (now buffer) ≡ x .n ⌝ }
     ensures { λ r.
         ⌜ _≡_ {A = MeetingOutcome}
         (record { answer = r; first = now (first .exit); second = now (second .exit); verdicts = now (buffer .exit) })
-        (metTogether (now (first .entry)) (now (second .entry)) (now (buffer .entry)) n p q) ⌝ }
+        (metTogether (now (first .entry)) (now (second .entry)) (now (buffer .entry)) (x .n) (x .p) (x .q)) ⌝ }
 {
-    let out = verdicts(first, second, n, p, q);
-    if is_undecided(out, n) {
+    let d = verdicts(first, second, x);
+    if d.nine != 0 {
         return 265;
     }
-    write_verdicts(buffer, out);
-    let k = write_meeting(first, second, n, p, q, out);
-    k as u32
+    write_verdicts(buffer, d);
+    write_meeting(first, second, x, d) as u32
 }
 
 // The label of a meeting, or 256 plus the number of its refusal.
@@ -95,14 +105,16 @@ pub fn meeting(first: &mut [u8], second: &mut [u8], buffer: &mut [u8]) -> u32
     let Checked::Good(g) = d else {
         return 256 + image::number_of(d);
     };
-    let n = h.n;
-    let p = h.stall;
-    let q = g.stall;
-    if (n != g.n) | (p == q) {
+    let x = Parties {
+        n: h.n,
+        p: h.stall,
+        q: g.stall,
+    };
+    if (x.n != g.n) | (x.p == x.q) {
         return 263;
     }
-    if buffer.len() != wide(n) {
+    if buffer.len() != wide(x.n) {
         return 264;
     }
-    meet(first, second, n, p, q, buffer)
+    meet(first, second, x, buffer)
 }

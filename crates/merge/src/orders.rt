@@ -1,154 +1,83 @@
 // The order marks that both heads hold after a meeting. Sets of stalls are numbers.
 ghost use mathlib.Core.Path.{_≡_};
-ghost use Prim.Native.Nat.{_%_, _≤_};
-ghost use mathlib.Core.Bool.{cond};
-ghost use lib.Dec.{eqb};
-ghost use lib.ListN.{length};
-ghost use Rattle.image.specs.Layout.{largest};
-ghost use Rattle.image.specs.Frame.{Framed};
-ghost use Rattle.image.specs.Row.{ownRow};
-ghost use Rattle.merge.specs.Judged.{verdictIn, Judged};
-ghost use Rattle.merge.specs.Orders.{Sorted, orderOf, heardFrom, Ordered};
+ghost use Prim.Native.Nat.{suc, _%_, _≤_, _<_};
+ghost use Rattle.image.specs.Layout.{largest, longestRow, orderAt};
+ghost use Rattle.image.specs.Encode.{tableOf};
+ghost use Rattle.image.specs.Frame.{Sized, Framed};
+ghost use Rattle.merge.specs.ByStall.{ByStall};
+ghost use Rattle.merge.specs.Views.{Decides};
+ghost use Rattle.merge.specs.Orders.{Sorts, sourceOf, orderOf, Ordered};
+use crate::Decided;
+use crate::Parties;
 use crate::Sets;
-use image::Entry;
+use crate::known::all_stalls;
+use crate::known::without;
+use crate::pairs::has_stall;
 use image::ROW;
-use image::STALLS;
 use image::bytes::orders_place;
 use image::bytes::wide;
+use image::marks::bit_of;
 use image::marks::pick;
 use image::marks::widen;
-use image::rows::is_never;
-use image::rows::own_row;
 
 // The stalls by who has them.
-fn sorted(verdicts: [u8; STALLS], n: u8, p: u8, q: u8) -> Sets
-    requires { ⌜ (n ≤ largest) × (length verdicts ≡ largest) ⌝ }
-    ensures { λ r. ⌜ Sorted n p q (verdictIn verdicts) n r ⌝ }
+fn sorted(x: Parties, d: Decided) -> Sets
+    requires { ⌜ (x .n ≤ largest) × (1 ≤ x .p) × (x .p ≤ x .n) × (1 ≤ x .q) × (x .q ≤ x .n) ⌝ }
+    ensures { λ r. ⌜ Sorts (x .n) (x .p) (x .q) d r ⌝ }
 {
-    let mut pair = 0u64;
-    let mut first = 0u64;
-    let mut second = 0u64;
-    let mut alone = 0u64;
-    let mut one = 1u64;
-    let mut s = 1u8;
-    while s <= n {
-        let v = verdicts[wide(s) - 1];
-        let met = (s == p) | (s == q);
-        pair += pick(met, one);
-        first += pick(!met & !(v == 2), one);
-        second += pick(!met & !(v == 1), one);
-        alone += pick(!met & (v == 2), one);
-        one += one;
-        s += 1;
-    }
+    let pair = bit_of(x.p) | bit_of(x.q);
+    let others = without(all_stalls(x.n), pair);
     Sets {
         pair,
-        first,
-        second,
-        alone,
+        first: without(others, d.two),
+        second: without(others, d.one),
+        alone: others & d.two,
+        heard: pair | d.heard,
     }
 }
 
-// The order byte of a stall that did not meet.
-fn order_of(x: Sets, v: u8, mine: u64, theirs: u64, heard: bool) -> u64
-    ensures { λ r. ⌜ r ≡ orderOf x v mine theirs heard ⌝ }
+// The stalls whose marks the stall behind r others takes from the second.
+fn source(x: Sets, r: usize) -> u64
+    requires { ⌜ r < largest ⌝ }
+    ensures { λ o. ⌜ o ≡ sourceOf x (suc r) ⌝ }
 {
-    let first = pick(!(v == 2), x.first) & mine;
-    let second = source(x, v) & theirs;
-    pick(heard, x.pair) | (first | second)
-}
-
-// The stalls whose marks a stall with this verdict takes from the second.
-fn source(x: Sets, v: u8) -> u64
-    ensures { λ r. ⌜ r ≡ cond (eqb v 1) 0 (cond (eqb v 2) (x .second) (x .alone)) ⌝ }
-{
-    if v == 1 {
-        return 0;
-    }
-    if v == 2 {
+    if has_stall(x.alone, r) {
         return x.second;
     }
-    x.alone
+    pick(has_stall(x.second, r), x.alone)
 }
 
-// A stall that did not meet has been heard by the head that it comes from.
-fn is_heard(v: u8, a: Entry, b: Entry) -> bool
-    ensures { λ r. ⌜ r ≡ heardFrom v (a .name) (b .name) ⌝ }
+// The order marks of the stall behind r others, by those that it has in both images.
+fn order_of(x: Sets, r: usize, mine: u64, theirs: u64) -> u64
+    requires { ⌜ r < largest ⌝ }
+    ensures { λ o. ⌜ o ≡ orderOf x (suc r) mine theirs ⌝ }
 {
-    let x = a.name;
-    let y = b.name;
-    if v == 2 {
-        return !is_never(y);
-    }
-    !is_never(x)
+    let first = pick(has_stall(x.first, r), x.first) & mine;
+    let second = source(x, r) & theirs;
+    pick(has_stall(x.heard, r), x.pair) | (first | second)
 }
 
-// The order byte of a stall.
-fn order_byte(x: Sets, met: bool, v: u8, a: Entry, b: Entry, mine: u64, theirs: u64) -> u8
-    ensures { λ r. ⌜ r ≡ cond met (x .pair) (orderOf x v mine theirs (heardFrom v (a .name) (b .name))) % 256 ⌝ }
-{
-    if met {
-        return (x.pair % 256) as u8;
-    }
-    (order_of(x, v, mine, theirs, is_heard(v, a, b)) % 256) as u8
-}
-
-// The order bytes of all stalls; past n zeros.
-pub(crate) fn merged_orders(
-    first: &[u8],
-    second: &[u8],
-    n: u8,
-    p: u8,
-    q: u8,
-    verdicts: [u8; STALLS],
-    mine: [Entry; STALLS],
-    theirs: [Entry; STALLS],
-    x: Sets,
-) -> [u8; ROW]
-    requires { ⌜ Framed (now first) n p × Framed (now second) n q ⌝ }
-    requires { ⌜ (mine ≡ ownRow (now first) n p) × (theirs ≡ ownRow (now second) n q) ⌝ }
-    requires { ⌜ Judged (now first) (now second) n p q n verdicts × Sorted n p q (verdictIn verdicts) n x ⌝ }
-    ensures { λ r. ⌜ Ordered (now (first .entry)) (now (second .entry)) n p q n r ⌝ }
+// The order marks of n stalls after a meeting.
+fn merged_orders(first: &[u8], second: &[u8], n: usize, x: Sets) -> [u8; ROW]
+    requires { ⌜ Sized (now first) n × Sized (now second) n ⌝ }
+    ensures { λ o. ⌜ ByStall 0 longestRow n (λ r. orderOf x r (orderAt (now (first .entry)) n r) (orderAt (now (second .entry)) n r) % 256) o ⌝ }
 {
     let mut out = [0u8; ROW];
-    let m = wide(n);
-    let mut at = orders_place(first.len(), m);
-    let mut s = 1u8;
+    let mut at = orders_place(first.len(), n);
     let mut r = 0usize;
-    while r < m {
-        let a = mine[r];
-        let b = theirs[r];
-        let met = (s == p) | (s == q);
-        out[r] = order_byte(
-            x,
-            met,
-            verdicts[r],
-            a,
-            b,
-            widen(first[at]),
-            widen(second[at]),
-        );
+    while r < n {
+        out[r] = (order_of(x, r, widen(first[at]), widen(second[at])) % 256) as u8;
         at += 1;
-        s += 1;
         r += 1;
     }
     out
 }
 
-// The order bytes after a meeting with these verdicts.
-pub(crate) fn orders_after(
-    first: &[u8],
-    second: &[u8],
-    n: u8,
-    p: u8,
-    q: u8,
-    verdicts: [u8; STALLS],
-) -> [u8; ROW]
-    requires { ⌜ Framed (now first) n p × Framed (now second) n q × Judged (now first) (now second) n p q n verdicts ⌝ }
-    ensures { λ r. ⌜ Ordered (now (first .entry)) (now (second .entry)) n p q n r ⌝ }
+// The order marks after a meeting with these verdicts.
+pub(crate) fn orders_after(first: &[u8], second: &[u8], x: Parties, d: Decided) -> [u8; ROW]
+    requires { ⌜ Framed (now first) (x .n) (x .p) × Framed (now second) (x .n) (x .q) ⌝ }
+    requires { ⌜ Decides (x .n) (x .p) (tableOf (now first) (x .n)) (x .q) (tableOf (now second) (x .n)) d ⌝ }
+    ensures { λ r. ⌜ Ordered (now (first .entry)) (now (second .entry)) (x .n) (x .p) (x .q) (x .n) r ⌝ }
 {
-    let mine = own_row(first, n, p);
-    let theirs = own_row(second, n, q);
-    let x = sorted(verdicts, n, p, q);
-    merged_orders(first, second, n, p, q, verdicts, mine, theirs, x)
+    merged_orders(first, second, wide(x.n), sorted(x, d))
 }

@@ -1,15 +1,13 @@
-// Rows of pairs of both heads: two bytes a stall, from the head that the verdict on the stall points to.
+// Rows of pairs of both heads: two bytes a stall, from the head that the stall comes from.
 ghost use mathlib.Core.Path.{_≡_};
-ghost use Prim.Native.Nat.{_+_, _*_, _≤_, _<_};
+ghost use Prim.Native.Nat.{suc, _+_, _*_, _≤_, _<_};
 ghost use mathlib.Core.Bool.{cond};
 ghost use lib.Dec.{eqb};
 ghost use lib.ListN.{length};
 ghost use Rattle.image.specs.Layout.{largest};
-ghost use Rattle.image.specs.Stalls.{each};
-ghost use Rattle.merge.specs.Judged.{verdictIn};
+ghost use Rattle.image.specs.Stalls.{each, has};
 ghost use Rattle.merge.specs.Body.{pairAt, pairBytes, padded, mixedPair};
 use image::ROW;
-use image::STALLS;
 
 // Two bytes of an image: a name, or a yield.
 pub struct Pair {
@@ -35,7 +33,7 @@ pub(crate) fn pair_at(image: &[u8], at: usize) -> Pair
     }
 }
 
-// The one pair or the other. Both are read before, so that no branch depends on the verdict.
+// The one pair or the other. Both are read before, so that no branch depends on the test.
 fn either(t: bool, x: Pair, y: Pair) -> Pair
     ensures { λ r. ⌜ pairBytes r ≡ cond t (pairBytes x) (pairBytes y) ⌝ }
 {
@@ -43,37 +41,38 @@ fn either(t: bool, x: Pair, y: Pair) -> Pair
 }
 
 // The pair of stall c, which stands d bytes behind the start of the row.
-fn pick(first: &[u8], a: Side, second: &[u8], b: Side, c: usize, d: usize, verdict: u8) -> Pair
+fn pick(first: &[u8], a: Side, second: &[u8], b: Side, c: usize, d: usize, theirs: bool) -> Pair
     requires { ⌜ (a .at + d + 1 < length (now first)) × (b .at + d + 1 < length (now second)) ⌝ }
     ensures { λ r.
         ⌜ pairBytes r
         ≡ cond (eqb c (a .stall)) (pairBytes (a .own))
         (cond (eqb c (b .stall)) (pairBytes (b .own))
-        (cond (eqb verdict 2) (pairAt (now (second .entry)) (b .at + d)) (pairAt (now (first .entry)) (a .at + d)))) ⌝ }
+        (cond theirs (pairAt (now (second .entry)) (b .at + d)) (pairAt (now (first .entry)) (a .at + d)))) ⌝ }
 {
     let x = pair_at(first, a.at + d);
     let y = pair_at(second, b.at + d);
-    let taken = either(verdict == 2, y, x);
+    let taken = either(theirs, y, x);
     let other = either(c == b.stall, b.own, taken);
     either(c == a.stall, a.own, other)
 }
 
-// The pairs of n stalls, each from the head that the verdict on it points to.
-pub(crate) fn mixed(
-    first: &[u8],
-    a: Side,
-    second: &[u8],
-    b: Side,
-    n: usize,
-    verdicts: [u8; STALLS],
-) -> [u8; ROW]
-    requires { ⌜ (n ≤ largest) × (a .at + n * 2 ≤ length (now first)) × (b .at + n * 2 ≤ length (now second)) × (length verdicts ≡ largest) ⌝ }
-    ensures { λ r. ⌜ r ≡ padded n (each n (mixedPair (now (first .entry)) a (now (second .entry)) b (verdictIn verdicts))) ⌝ }
+// A set has the stall behind c others.
+pub(crate) fn has_stall(set: u64, c: usize) -> bool
+    requires { ⌜ c < largest ⌝ }
+    ensures { λ r. ⌜ r ≡ has set (suc c) ⌝ }
+{
+    (set >> c) % 2 == 1
+}
+
+// The pairs of n stalls, those of a set from the second head.
+pub(crate) fn mixed(first: &[u8], a: Side, second: &[u8], b: Side, n: usize, two: u64) -> [u8; ROW]
+    requires { ⌜ (n ≤ largest) × (a .at + n * 2 ≤ length (now first)) × (b .at + n * 2 ≤ length (now second)) ⌝ }
+    ensures { λ r. ⌜ r ≡ padded n (each n (mixedPair (now (first .entry)) a (now (second .entry)) b (has two))) ⌝ }
 {
     let mut row = [0u8; ROW];
     let mut c = 0usize;
     while c < n {
-        let x = pick(first, a, second, b, c + 1, c + c, verdicts[c]);
+        let x = pick(first, a, second, b, c + 1, c + c, has_stall(two, c));
         row[c + c] = x.high;
         row[c + c + 1] = x.low;
         c += 1;

@@ -1,7 +1,7 @@
 -- Both images after a meeting, and its label.
 use native.Mathlib.Omega.{arith}
 use borrow.Author.Needs.{needs}
-use Rattle.merge.specs.Judged.{verdictIn}
+use Rattle.image.specs.Stalls.{has}
 use Rattle.merge.proofs.MeetingWritten.{may-write, was-written, copied}
 use Rattle.merge.proofs.meeting.write_meeting.Statement.{statement}
 use Rattle.merge.proofs.meeting.write_meeting.Tie as tie
@@ -10,13 +10,33 @@ pub write-meeting-spec : {M : Type 1} → statement M
 write-meeting-spec =
     tie.close
     (tie.spec
-    (λ c κs. search needs)
-    (λ c κs. search needs)
-    (λ c κs. search needs)
-    (λ c κs. search needs)
-    (λ c κs. search needs)
-    (λ c κs. may-write (c .before .before .before .before .before .before .before .before .before .before .before .before .before .before .before .before .args .first .now) (c .before .before .before .before .before .before .before .before .before .before .before .before .before .before .before .before .args .second .now) (c .before .before .before .before .before .before .before .before .before .before .before .before .before .before .before .before .args .n) (c .before .before .before .before .before .before .before .before .before .before .before .before .before .before .before .before .args .p) (c .before .before .before .before .before .before .before .before .before .before .before .before .before .before .before .before .args .q) (c .before .before .before .before .before .before .before .before .before .before .new-label .result) (verdictIn (c .before .before .before .before .before .before .before .before .before .before .before .before .before .before .before .before .args .verdicts)) (c .before .before .before .before .before .before .before .before .before .before .before .before .before .before .before .before .pre .0) (c .before .before .before .before .before .before .before .before .before .before .before .before .before .before .before .before .pre .1) (c .before .before .before .before .before .before .before .merged-rows .result) (c .before .before .before .before .merged-yields .result) (c .before .orders-after .result) (c .before .before .before .before .before .before .before .merged-rows .ensures .1) (c .before .before .before .before .merged-yields .ensures) (c .before .orders-after .ensures) (c .before .before .before .before .before .before .before .before .before .before .before .before .before .wide .result) (c .before .before .before .before .before .before .before .before .before .before .before .before .before .wide .ensures .0) (c .before .before .before .before .before .before .before .before .before .before .before .before .before .before .before .before .args .first .now) (c .before .before .before .before .before .before .before .before .before .before .before .before .before .before .before .before .args .p) (c .before .before .before .before .before .before .before .before .before .before .before .before .before .before .before .before .pre .0) (c .before .before .before .before .before .before .before .merged-rows .ensures .0))
-    (λ c κs. (omega (arith, c .before .before .before .before .before .before .before .before .before .before .before .before .before .before .before .before .before .before .before .before .before .pre .1 .long), omega (arith, c .before .before .before .before .before .before .before .before .before .before .before .before .before .before .before .before .before .before .before .before .before .pre .0 .long, c .before .before .before .before .before .before .before .before .before .before .before .before .before .before .before .before .before .before .before .before .before .pre .1 .long, c .before .before .before .before .write-body .kept .0)))
+    (λ c κs. c .before .before .before .before .pre .0)
+    (λ c κs. c .before .before .before .before .before .before .before .pre .0)
+    (λ c κs. c .before .before .before .before .before .before .before .before .before .before .pre .0)
+    (λ c κs. c .before .before .before .before .before .before .before .before .before .before .before .before .before .pre)
+    (λ c κs. tt)
+    (λ c κs.
+    let start = c .before .before .before .before .before .before .before .before .before .before .before .before .before .before .before .before in
+    let a = start .args in
+    let x = a .x in
+    let k = c .before .before .before .before .before .before .before .before .before .before .before .new-label .result in
+    let rows = c .before .before .before .before .before .before .before .before .merged-rows in
+    let yields = c .before .before .before .before .before .merged-yields in
+    let orders = c .before .before .orders-after in
+    may-write (a .first .now) (a .second .now) (x .n) (x .p) (x .q) k (has (a .d .two)) (start .pre .0 .0) (start .pre .0 .1) (rows .result) (yields .result) (orders .result) (rows .ensures .1) (yields .ensures) (orders .ensures) (c .wide .result) (c .wide .ensures .0) (a .first .now) (x .p) (start .pre .0 .0) (rows .ensures .0))
+    (λ c κs. let start = c .before .before .before .before .before .before .before .before .before .before .before .before .before .before .before .before .before .before .before .before .before in (omega (arith, start .pre .0 .1 .long), omega (arith, start .pre .0 .0 .long, start .pre .0 .1 .long, c .before .before .before .before .write-body .kept .0)))
     (λ c. search needs)
     (λ c. search needs)
-    (λ c. (c .before .before .before .before .before .before .before .before .before .before .before .before .before .before .before .before .before .before .new-label .ensures, was-written (c .before .before .before .before .before .before .before .before .before .before .before .before .before .before .before .before .before .before .before .before .before .before .before .before .args .first .now) (c .before .before .before .before .before .before .before .before .before .before .before .before .before .before .before .before .before .before .before .before .before .before .before .before .args .second .now) (c .before .before .before .before .before .before .before .before .before .before .before .before .before .before .before .before .before .before .before .before .before .before .before .before .args .n) (c .before .before .before .before .before .before .before .before .before .before .before .before .before .before .before .before .before .before .before .before .before .before .before .before .args .p) (c .before .before .before .before .before .before .before .before .before .before .before .before .before .before .before .before .before .before .before .before .before .before .before .before .args .q) (c .before .before .before .before .before .before .before .before .before .before .before .before .before .before .before .before .before .before .new-label .result) (verdictIn (c .before .before .before .before .before .before .before .before .before .before .before .before .before .before .before .before .before .before .before .before .before .before .before .before .args .verdicts)) (c .before .before .before .before .before .before .before .before .before .before .before .before .before .before .before .before .before .before .before .before .before .before .before .before .pre .0) (c .before .before .before .before .before .before .before .before .before .before .before .before .before .before .before .before .before .before .before .before .before .before .before .before .pre .1) (c .before .before .before .before .before .before .before .before .before .before .before .before .before .before .before .merged-rows .result) (c .before .before .before .before .before .before .before .before .before .before .before .before .merged-yields .result) (c .before .before .before .before .before .before .before .before .before .orders-after .result) (c .before .before .before .before .before .before .before .before .before .before .before .before .before .before .before .merged-rows .ensures .1) (c .before .before .before .before .before .before .before .before .before .before .before .before .merged-yields .ensures) (c .before .before .before .before .before .before .before .before .before .orders-after .ensures) (c .before .before .before .before .before .before .before .before .before .before .before .before .before .before .before .before .before .before .before .before .before .wide .result) (c .before .before .before .before .before .before .before .before .before .before .before .before .before .before .before .before .before .before .before .before .before .wide .ensures .0) (c .before .before .before .before .before .before .before .before .before .before .before .before .before .before .before .before .before .before .before .before .before .before .before .before .args .first .now) (c .before .before .before .before .before .before .before .write-body .last .0) (c .before .before .before .before .before .before .before .write-body .ensures), copied (c .before .before .before .before .before .before .before .before .before .before .before .before .before .before .before .before .before .before .before .before .before .before .before .before .args .first .now) (c .before .before .before .before .before .before .before .before .before .before .before .before .before .before .before .before .before .before .before .before .before .before .before .before .args .second .now) (c .before .before .before .before .before .before .before .before .before .before .before .before .before .before .before .before .before .before .before .before .before .before .before .before .args .first .now) (c .before .before .before .before .before .before .before .before .before .before .before .before .before .before .before .before .before .before .before .before .before .before .before .before .args .second .now) (c .before .before .before .before .before .before .before .before .before .before .before .before .before .before .before .before .before .before .before .before .before .before .before .before .args .n) (c .before .before .before .before .before .before .before .before .before .before .before .before .before .before .before .before .before .before .before .before .before .before .before .before .args .p) (c .before .before .before .before .before .before .before .before .before .before .before .before .before .before .before .before .before .before .before .before .before .before .before .before .args .q) (c .before .before .before .before .before .before .before .before .before .before .before .before .before .before .before .before .before .before .new-label .result) (verdictIn (c .before .before .before .before .before .before .before .before .before .before .before .before .before .before .before .before .before .before .before .before .before .before .before .before .args .verdicts)) (c .before .before .before .before .before .before .before .write-body .last .0) (c .before .before .copy-body .last .0) (omega (arith, c .before .before .before .before .before .before .before .before .before .before .before .before .before .before .before .before .before .before .before .before .before .before .before .before .pre .0 .long)) (was-written (c .before .before .before .before .before .before .before .before .before .before .before .before .before .before .before .before .before .before .before .before .before .before .before .before .args .first .now) (c .before .before .before .before .before .before .before .before .before .before .before .before .before .before .before .before .before .before .before .before .before .before .before .before .args .second .now) (c .before .before .before .before .before .before .before .before .before .before .before .before .before .before .before .before .before .before .before .before .before .before .before .before .args .n) (c .before .before .before .before .before .before .before .before .before .before .before .before .before .before .before .before .before .before .before .before .before .before .before .before .args .p) (c .before .before .before .before .before .before .before .before .before .before .before .before .before .before .before .before .before .before .before .before .before .before .before .before .args .q) (c .before .before .before .before .before .before .before .before .before .before .before .before .before .before .before .before .before .before .new-label .result) (verdictIn (c .before .before .before .before .before .before .before .before .before .before .before .before .before .before .before .before .before .before .before .before .before .before .before .before .args .verdicts)) (c .before .before .before .before .before .before .before .before .before .before .before .before .before .before .before .before .before .before .before .before .before .before .before .before .pre .0) (c .before .before .before .before .before .before .before .before .before .before .before .before .before .before .before .before .before .before .before .before .before .before .before .before .pre .1) (c .before .before .before .before .before .before .before .before .before .before .before .before .before .before .before .merged-rows .result) (c .before .before .before .before .before .before .before .before .before .before .before .before .merged-yields .result) (c .before .before .before .before .before .before .before .before .before .orders-after .result) (c .before .before .before .before .before .before .before .before .before .before .before .before .before .before .before .merged-rows .ensures .1) (c .before .before .before .before .before .before .before .before .before .before .before .before .merged-yields .ensures) (c .before .before .before .before .before .before .before .before .before .orders-after .ensures) (c .before .before .before .before .before .before .before .before .before .before .before .before .before .before .before .before .before .before .before .before .before .wide .result) (c .before .before .before .before .before .before .before .before .before .before .before .before .before .before .before .before .before .before .before .before .before .wide .ensures .0) (c .before .before .before .before .before .before .before .before .before .before .before .before .before .before .before .before .before .before .before .before .before .before .before .before .args .first .now) (c .before .before .before .before .before .before .before .write-body .last .0) (c .before .before .before .before .before .before .before .write-body .ensures)) (c .before .before .copy-body .ensures))))
+    (λ c.
+    let start = c .before .before .before .before .before .before .before .before .before .before .before .before .before .before .before .before .before .before .before .before .before .before .before .before in
+    let a = start .args in
+    let x = a .x in
+    let k = c .before .before .before .before .before .before .before .before .before .before .before .before .before .before .before .before .before .before .before .new-label .result in
+    let rows = c .before .before .before .before .before .before .before .before .before .before .before .before .before .before .before .before .merged-rows in
+    let yields = c .before .before .before .before .before .before .before .before .before .before .before .before .before .merged-yields in
+    let orders = c .before .before .before .before .before .before .before .before .before .before .orders-after in
+    let written = was-written (a .first .now) (a .second .now) (x .n) (x .p) (x .q) k (has (a .d .two)) (start .pre .0 .0) (start .pre .0 .1) (rows .result) (yields .result) (orders .result) (rows .ensures .1) (yields .ensures) (orders .ensures) (c .before .before .before .before .before .before .before .before .wide .result) (c .before .before .before .before .before .before .before .before .wide .ensures .0) (a .first .now) (c .before .before .before .before .before .before .before .write-body .last .0) (c .before .before .before .before .before .before .before .write-body .ensures) in (
+      c .before .before .before .before .before .before .before .before .before .before .before .before .before .before .before .before .before .before .before .new-label .ensures,
+      written,
+      copied (a .first .now) (a .second .now) (a .first .now) (a .second .now) (x .n) (x .p) (x .q) k (has (a .d .two)) (c .before .before .before .before .before .before .before .write-body .last .0) (c .before .before .copy-body .last .0) (omega (arith, start .pre .0 .0 .long)) written (c .before .before .copy-body .ensures),
+    )))

@@ -1,18 +1,20 @@
 -- The verdicts into a buffer.
 use Prim.Native.Nat.{_-_, _≤_}
-use mathlib.Core.Path.{_≡_, refl}
-use mathlib.Core.List.{_++_}
+use mathlib.Core.Path.{_≡_, refl, ap₂, _∙_}
+use mathlib.Core.Bool.{cond}
 use native.Mathlib.Omega.{arith}
-use lib.ListN.{length, take, drop, length-set}
-use Rattle.image.proofs.Overwrite.{overwrite-next, overwrite-end}
+use lib.ListN.{length}
+use Rattle.image.specs.Stalls.{has}
+use Rattle.merge.specs.ByStall.{ByStall}
+use Rattle.merge.proofs.ByStalls.{by-stall-start, by-stall-next, by-stall-end}
 use Rattle.merge.proofs.meeting.write_verdicts.Statement.{statement}
 use Rattle.merge.proofs.meeting.write_verdicts.Tie as tie
 
 abbrev Inv-loop : tie.InvT-loop
-Inv-loop buffer₀ verdicts i₀ buffer i = (i ≤ length buffer₀) × (buffer ≡ take i verdicts ++ drop i buffer₀) × (length buffer ≡ length buffer₀)
+Inv-loop buffer₀ d i₀ buffer i = (i ≤ length buffer₀) × ByStall 0 (length buffer₀) i (λ r. cond (has (d .one) r) 1 (cond (has (d .two) r) 2 0)) buffer
 
 abbrev μ-loop : tie.MeasureT-loop
-μ-loop buffer₀ verdicts i₀ buffer i = length buffer₀ - i
+μ-loop buffer₀ d i₀ buffer i = length buffer₀ - i
 
 pub write-verdicts-spec : {M : Type 1} → statement M
 write-verdicts-spec =
@@ -20,11 +22,17 @@ write-verdicts-spec =
     (tie.spec
     Inv-loop
     μ-loop
-    (λ c. (omega arith, refl, refl))
+    (λ c. (omega arith, by-stall-start refl))
+    (λ c κs. omega (arith, c .before .loop .inv .1 .long))
+    (λ c κs. omega (arith, c .before .before .loop .inv .1 .long))
+    (λ c κs. tt)
     (λ c. omega arith)
-    (λ c. omega arith)
-    (λ c. omega arith)
-    (λ c. omega arith)
-    (λ c. (omega arith, overwrite-next (c .before .before .args .buffer .now) (c .before .before .args .t2) (c .before .loop .buffer) (c .before .loop .i) (omega arith) (omega arith) (c .before .loop .inv .1), simp length-set (c .before .loop .inv .2)))
-    (λ c. c .before .loop .inv .2)
-    (λ c. overwrite-end (c .before .before .args .buffer .now) (c .before .before .args .t2) (c .before .loop .buffer) (c .before .loop .i) (omega arith) (c .before .loop .inv .0) (c .before .loop .inv .1)))
+    (λ c. omega (arith, c .before .before .before .before .loop .inv .1 .long))
+    (λ c. omega (arith, c .before .before .before .before .loop .inv .1 .long))
+    (λ c.
+    let l = c .before .before .before .before .loop in (
+      omega (arith, l .inv .1 .long),
+      by-stall-next (l .inv .1) (omega (arith, l .inv .1 .long)) _ (c .verdict-byte .ensures ∙ ap₂ (λ x y. cond x 1 (cond y 2 0)) (c .before .before .has-stall .ensures) (c .before .has-stall2 .ensures)),
+    ))
+    (λ c. c .before .loop .inv .1 .long)
+    (λ c. let i = c .before .loop .inv in by-stall-end _ (omega (arith, i .1 .long)) (i .1)))

@@ -1,20 +1,21 @@
--- The order bytes of all stalls.
-use Prim.Native.Nat.{_+_, _-_, _≤_}
-use mathlib.Core.Path.{_≡_, refl, subst}
+-- The order marks of all stalls.
+use Prim.Native.Nat.{suc, _+_, _-_, _%_, _≤_}
+use mathlib.Core.Path.{_≡_, refl, ap, ap₂, _∙_}
 use native.Mathlib.Omega.{arith}
-use Rattle.image.specs.Layout.{orderPlace}
-use Rattle.merge.specs.Orders.{Ordered}
-use Rattle.merge.proofs.ByStalls.{by-stall-start, by-stall-next}
-use Rattle.merge.proofs.OrderBytes.{order-next}
+use lib.ListN.{getD}
+use Rattle.image.specs.Layout.{longestRow, orderPlace, orderAt}
+use Rattle.merge.specs.ByStall.{ByStall}
+use Rattle.merge.specs.Orders.{orderOf}
+use Rattle.merge.proofs.ByStalls.{by-stall-start, by-stall-next, by-stall-end}
 use Rattle.merge.proofs.orders.merged_orders.Statement.{statement}
 use Rattle.merge.proofs.orders.merged_orders.Tie as tie
 
 abbrev Inv-loop : tie.InvT-loop
-Inv-loop first second n p q x verdicts mine theirs out₀ m at₀ s₀ r₀ out at s r =
-    Ordered first second n p q r out × (r ≤ m) × (m ≡ n) × (at ≡ orderPlace n (r + 1)) × (s ≡ r + 1)
+Inv-loop first second n x out₀ at₀ r₀ out at r =
+    (r ≤ n) × (at ≡ orderPlace n (suc r)) × ByStall 0 longestRow r (λ r. orderOf x r (orderAt first n r) (orderAt second n r) % 256) out
 
 abbrev μ-loop : tie.MeasureT-loop
-μ-loop first second n p q x verdicts mine theirs out₀ m at₀ s₀ r₀ out at s r = m - r
+μ-loop first second n x out₀ at₀ r₀ out at r = n - r
 
 pub merged-orders-spec : {M : Type 1} → statement M
 merged-orders-spec =
@@ -23,34 +24,25 @@ merged-orders-spec =
     Inv-loop
     μ-loop
     (λ c κs. tt)
-    (λ c κs. tt)
-    (λ c. (by-stall-start refl, omega arith, c .before .wide .ensures .0, omega (arith, c .before .wide .ensures .0), omega arith))
-    (λ c. omega arith)
-    (λ c. omega arith)
-    (λ c. omega arith)
-    (λ c. omega arith)
-    (λ c. omega arith)
+    (λ c. (omega arith, omega arith, by-stall-start refl))
     (λ c. omega arith)
     (λ c κs. tt)
     (λ c. omega arith)
     (λ c κs. tt)
-    (λ c κs. tt)
-    (λ c. omega arith)
+    (λ c κs. omega arith)
+    (λ c. record { fits = omega arith })
     (λ c. omega arith)
     (λ c. omega arith)
     (λ c. omega arith)
     (λ c. omega arith)
     (λ c.
-    let a = c .before .before .before .before .before .before .before .before .before .before .before .before .before .args in
-    let h = c .before .before .before .before .before .before .before .before .before .before .before .before .before .pre in
-    let l = c .before .before .before .before .before .before .before .before .loop in (
-      by-stall-next (l .inv .0) (omega arith) (c .order-byte .result)
-          (order-next (a .first .now) (a .second .now) (a .n) (a .p) (a .q) (h .0 .0) (h .0 .1) (a .t7) (a .t8) (h .1 .0 .0) (h .1 .0 .1) (a .t6) (a .x) (h .1 .1 .0) (h .1 .1 .1)
-          (l .r) (l .at) (l .s) (c .before .before .before .widen .result) (c .before .widen2 .result) (c .order-byte .result)
-          (omega arith) (l .inv .3) (l .inv .4) (c .before .before .before .widen .ensures .0) (c .before .widen2 .ensures .0) (c .order-byte .ensures)),
-      omega arith,
-      l .inv .2,
+    let a = c .before .before .before .before .before .before .before .before .before .before .args in
+    let l = c .before .before .before .before .before .before .loop in (
       omega arith,
       omega arith,
+      by-stall-next (l .inv .2) (omega arith) _
+          (ap (λ k. k % 256)
+          (c .order-of .ensures
+          ∙ ap₂ (orderOf (a .x) (suc (l .r))) (c .before .before .before .widen .ensures .0 ∙ ap (λ k. getD (a .first .now) k 0) (l .inv .1)) (c .before .widen2 .ensures .0 ∙ ap (λ k. getD (a .second .now) k 0) (l .inv .1)))),
     ))
-    (λ c. subst (λ k. Ordered (c .before .before .before .before .before .before .args .first .now) (c .before .before .before .before .before .before .args .second .now) (c .before .before .before .before .before .before .args .n) (c .before .before .before .before .before .before .args .p) (c .before .before .before .before .before .before .args .q) k (c .before .loop .out)) (let e : c .before .loop .r ≡ c .before .before .before .before .before .before .args .n = omega arith in e) (c .before .loop .inv .0)))
+    (λ c. by-stall-end _ (omega arith) (c .before .loop .inv .2)))

@@ -1,5 +1,6 @@
 -- The stalls whose marks a stall takes from the second.
-use borrow.Author.Tests.{eq-eqb, ne-eqb}
+use mathlib.Core.Path.{refl, sym, _∙_}
+use borrow.Author.Needs.{needs}
 use Rattle.merge.proofs.orders.source.Statement.{statement}
 use Rattle.merge.proofs.orders.source.Tie as tie
 
@@ -7,6 +8,8 @@ pub source-spec : {M : Type 1} → statement M
 source-spec =
     tie.close
     (tie.spec
-    (λ c. simp (eq-eqb _ _ (c .if1 .taken)))
-    (λ c. simp (ne-eqb _ _ (c .before .if1 .left), eq-eqb _ _ (c .if2 .taken)))
-    (λ c. simp (ne-eqb _ _ (c .before .if1 .left), ne-eqb _ _ (c .if2 .left))))
+    (λ c κs. search needs)
+    (λ c. rw (sym (c .before .has-stall .ensures) ∙ c .if1 .taken) refl)
+    (λ c κs. search needs)
+    (λ c κs. tt)
+    (λ c. rw (sym (c .before .before .before .has-stall .ensures) ∙ c .before .before .if1 .left, sym (c .before .has-stall2 .ensures)) (c .pick .ensures .0)))

@@ -5,18 +5,17 @@ use mathlib.Core.List.{List}
 use native.Mathlib.Omega.{arith}
 use lib.ListN.{length, length-set}
 use Rattle.image.specs.Layout.{longestRow}
-use Rattle.image.specs.Stalls.{each}
-use Rattle.merge.specs.Judged.{verdictIn}
+use Rattle.image.specs.Stalls.{each, has}
 use Rattle.merge.specs.Body.{padded, mixedPair}
 use Rattle.merge.proofs.PairRows.{pairs-next, mixed-wide, mixed-at}
 use Rattle.merge.proofs.pairs.mixed.Statement.{statement}
 use Rattle.merge.proofs.pairs.mixed.Tie as tie
 
 abbrev Inv-loop : tie.InvT-loop
-Inv-loop first a second b n verdicts row₀ c₀ row c = (c ≤ n) × (length row ≡ longestRow) × (row ≡ padded c (each c (mixedPair first a second b (verdictIn verdicts))))
+Inv-loop first a second b n two row₀ c₀ row c = (c ≤ n) × (length row ≡ longestRow) × (row ≡ padded c (each c (mixedPair first a second b (has two))))
 
 abbrev μ-loop : tie.MeasureT-loop
-μ-loop first a second b n verdicts row₀ c₀ row c = n - c
+μ-loop first a second b n two row₀ c₀ row c = n - c
 
 whole : (f : ℕ → List ℕ) (row : List ℕ) (c n : ℕ) → c ≤ n → n ≤ c → row ≡ padded c (each c f) → row ≡ padded n (each n f)
 whole f row c n a b e = let j : c ≡ n = omega arith in e ∙ ap (λ k. padded k (each k f)) j
@@ -31,7 +30,7 @@ mixed-spec =
     (λ c. (omega arith, refl, refl))
     (λ c. omega arith)
     (λ c. omega arith)
-    (λ c. omega arith)
+    (λ c κs. omega arith)
     (λ c κs. omega arith)
     (λ c. omega arith)
     (λ c. omega arith)
@@ -40,5 +39,13 @@ mixed-spec =
     (λ c. omega arith)
     (λ c. omega arith)
     (λ c. omega arith)
-    (λ c. (omega arith, simp length-set (c .before .before .loop .inv .1), pairs-next (mixedPair (c .before .before .before .before .before .args .first .now) (c .before .before .before .before .before .args .a) (c .before .before .before .before .before .args .second .now) (c .before .before .before .before .before .args .b) (verdictIn (c .before .before .before .before .before .args .t6))) (mixed-wide (c .before .before .before .before .before .args .first .now) (c .before .before .before .before .before .args .a) (c .before .before .before .before .before .args .second .now) (c .before .before .before .before .before .args .b) (verdictIn (c .before .before .before .before .before .args .t6))) (c .before .before .loop .row) (c .before .before .loop .c) (c .pick .result .high) (c .pick .result .low) (omega arith) (c .before .before .loop .inv .2) (mixed-at (c .before .before .before .before .before .args .first .now) (c .before .before .before .before .before .args .a) (c .before .before .before .before .before .args .second .now) (c .before .before .before .before .before .args .b) (c .before .before .before .before .before .args .t6) (c .before .before .loop .c) (c .pick .result) (c .pick .ensures))))
-    (λ c. whole (mixedPair (c .before .before .before .before .args .first .now) (c .before .before .before .before .args .a) (c .before .before .before .before .args .second .now) (c .before .before .before .before .args .b) (verdictIn (c .before .before .before .before .args .t6))) (c .before .loop .row) (c .before .loop .c) (c .before .before .before .before .args .n) (omega arith) (omega arith) (c .before .loop .inv .2)))
+    (λ c.
+    let a = c .before .before .before .before .before .before .args in
+    let l = c .before .before .before .loop in
+    let pair = mixedPair (a .first .now) (a .a) (a .second .now) (a .b) (has (a .two)) in (
+      omega arith,
+      simp length-set (l .inv .1),
+      pairs-next pair (mixed-wide (a .first .now) (a .a) (a .second .now) (a .b) (has (a .two))) (l .row) (l .c) (c .pick .result .high) (c .pick .result .low) (omega arith) (l .inv .2)
+          (mixed-at (a .first .now) (a .a) (a .second .now) (a .b) (has (a .two)) (l .c) _ (c .pick .result) (c .before .has-stall .ensures) (c .pick .ensures)),
+    ))
+    (λ c. let a = c .before .before .before .before .args in whole (mixedPair (a .first .now) (a .a) (a .second .now) (a .b) (has (a .two))) (c .before .loop .row) (c .before .loop .c) (a .n) (omega arith) (omega arith) (c .before .loop .inv .2)))

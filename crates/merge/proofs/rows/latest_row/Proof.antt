@@ -1,8 +1,9 @@
 -- The new list of latests.
 use mathlib.Core.Path.{refl}
 use native.Mathlib.Omega.{arith}
-use Rattle.merge.specs.Judged.{verdictIn}
-use Rattle.merge.proofs.Mixing.{own-row-fits, mixed-latest}
+use Rattle.image.specs.Stalls.{has}
+use Rattle.merge.proofs.Frames.{own-row-fits}
+use Rattle.merge.proofs.Mixing.{mixed-latest}
 use Rattle.merge.proofs.rows.latest_row.Statement.{statement}
 use Rattle.merge.proofs.rows.latest_row.Tie as tie
 
@@ -15,5 +16,7 @@ latest-row-spec =
     (λ c κs. tt)
     (λ c κs. tt)
     (λ c κs. tt)
-    (λ c κs. (omega arith, own-row-fits _ _ (c .before .before .before .before .before .before .before .pre .0) (c .before .before .before .row-place .ensures) (c .wide3 .ensures .0), own-row-fits _ _ (c .before .before .before .before .before .before .before .pre .1) (c .before .row-place2 .ensures) (c .wide3 .ensures .0), c .before .before .before .before .before .before .before .pre .2))
-    (λ c. mixed-latest (c .before .before .before .before .before .before .before .before .args .first .now) (c .before .before .before .before .before .before .before .before .args .second .now) _ (verdictIn (c .before .before .before .before .before .before .before .before .args .verdicts)) _ _ _ _ _ _ (c .before .wide3 .ensures .0) (c .before .before .before .before .before .wide .ensures .0) (c .before .before .before .wide2 .ensures .0) (c .mixed .ensures) _ (c .before .before .before .before .row-place .ensures) (c .before .before .row-place2 .ensures) refl refl))
+    (λ c κs. let start = c .before .before .before .before .before .before .before in (omega (arith, start .pre .0 .n-to, c .wide3 .ensures), own-row-fits _ _ (start .pre .0) (c .before .before .before .row-place .ensures) (c .wide3 .ensures .0), own-row-fits _ _ (start .pre .1) (c .before .row-place2 .ensures) (c .wide3 .ensures .0)))
+    (λ c.
+    let a = c .before .before .before .before .before .before .before .before .args in
+    mixed-latest (a .first .now) (a .second .now) _ (has (a .two)) _ _ _ _ _ _ (c .before .wide3 .ensures .0) (c .before .before .before .before .before .wide .ensures .0) (c .before .before .before .wide2 .ensures .0) (c .mixed .ensures) (a .k) (c .before .before .before .before .row-place .ensures) (c .before .before .row-place2 .ensures) refl refl))

@@ -1,6 +1,5 @@
 -- The row of a stall, which starts at a place.
 use borrow.Author.Needs.{needs}
-use borrow.Author.Tests.{eq-eqb, ne-eqb}
 use Rattle.merge.proofs.rows.row_after.Statement.{statement}
 use Rattle.merge.proofs.rows.row_after.Tie as tie
 
@@ -10,6 +9,6 @@ row-after-spec =
     (tie.spec
     (λ c. search needs)
     (λ c κs. search needs)
-    (λ c. rw (c .before .before .if1 .left, eq-eqb _ _ (c .before .if2 .taken)) (c .row-of .ensures))
+    (λ c. rw (c .before .before .if1 .left, c .before .if2 .taken) (c .row-of .ensures))
     (λ c κs. search needs)
-    (λ c. rw (c .before .before .if1 .left, ne-eqb _ _ (c .before .if2 .left)) (c .row-of2 .ensures)))
+    (λ c. rw (c .before .before .if1 .left, c .before .if2 .left) (c .row-of2 .ensures)))

@@ -1,0 +1,79 @@
+-- Sets of stalls that other sets are made of, by `&`, `|` and taking away: each is the set that a test picks.
+use Prim.Native.Nat.{ℕ, zero, suc, _+_, _-_, _^_, _≤_, _<_}
+use mathlib.Core.Path.{_≡_, refl, sym, ap, ap₂, _∙_}
+use mathlib.Core.Bool.{Bool, true, false, _&&_, _||_, not, cond, true≢false}
+use native.Mathlib.Omega.{arith}
+use native.Mathlib.Nat.{pow-succ'}
+use native.Mathlib.Decide.{decLe, ℕ-discrete}
+use borrow.Author.Tests.{eq-eqb, ne-eqb, le-leb, lt-leb}
+use lib.Bits.{bitAnd, bitOr, and-le-l, or-lt}
+use lib.Dec.{eqb, leb}
+use lib.Pow.{pow-pos}
+use Rattle.image.specs.Stalls.{some, bits, has, bitOf}
+use Rattle.image.proofs.Bits.{has-ext, has-and, has-or, has-zero, has-bits, bits-lt, bitOf-is, Found, at, nowhere, some-found}
+use Rattle.image.proofs.Encoding.{bits-agree, bits-none}
+
+-- what a set of 1 to n has
+pub has-in : (n : ℕ) (f : ℕ → Bool) (s : ℕ) → 1 ≤ s → s ≤ n → has (bits n f) s ≡ f s
+has-in n f s a b = has-bits n f s a ∙ ap (λ t. t && f s) (le-leb s n b)
+
+pub and-bits : (n : ℕ) (f g : ℕ → Bool) → bitAnd (bits n f) (bits n g) ≡ bits n (λ s. f s && g s)
+and-bits n f g =
+    has-ext n _ _ (omega (arith, and-le-l (bits n f) (bits n g), bits-lt n f)) (bits-lt n _)
+    (λ s a b. has-and (bits n f) (bits n g) s a ∙ ap₂ _&&_ (has-in n f s a b) (has-in n g s a b) ∙ sym (has-in n (λ s. f s && g s) s a b))
+
+pub or-bits : (n : ℕ) (f g : ℕ → Bool) → bitOr (bits n f) (bits n g) ≡ bits n (λ s. f s || g s)
+or-bits n f g =
+    has-ext n _ _ (or-lt n _ _ (bits-lt n f) (bits-lt n g)) (bits-lt n _)
+    (λ s a b. has-or (bits n f) (bits n g) s a ∙ ap₂ _||_ (has-in n f s a b) (has-in n g s a b) ∙ sym (has-in n (λ s. f s || g s) s a b))
+
+-- a set is its part in another and its part outside
+parted : (n : ℕ) (f g : ℕ → Bool) → bits n (λ s. f s && g s) + bits n (λ s. f s && not (g s)) ≡ bits n f
+unfolding bits
+parted zero f g = refl
+parted (suc n) f g = go (f (suc n)) (g (suc n)) (parted n f g)
+  where
+    go : (x y : Bool) → bits n (λ s. f s && g s) + bits n (λ s. f s && not (g s)) ≡ bits n f
+        → bits n (λ s. f s && g s) + cond (x && y) (2 ^ n) 0 + (bits n (λ s. f s && not (g s)) + cond (x && not y) (2 ^ n) 0) ≡ bits n f + cond x (2 ^ n) 0
+    go true true e = omega arith
+    go true false e = omega arith
+    go false y e = omega arith
+
+pub without-bits : (n : ℕ) (f g : ℕ → Bool) → bits n f - bitAnd (bits n f) (bits n g) ≡ bits n (λ s. f s && not (g s))
+without-bits n f g = ap (λ x. bits n f - x) (and-bits n f g) ∙ omega (arith, parted n f g)
+
+pub all-bits : (n : ℕ) → 2 ^ n - 1 ≡ bits n (λ s. true)
+unfolding bits
+all-bits zero = refl
+all-bits (suc n) = omega (arith, all-bits n, pow-succ' 2 n, pow-pos n)
+
+-- the bit behind those of n stalls
+pub next-bit : (n : ℕ) → n < 64 → bitOf (n + 1) ≡ 2 ^ n
+next-bit n l = let i : n + 1 - 1 ≡ n = omega arith in bitOf-is (omega arith) (omega arith) ∙ ap (λ k. 2 ^ k) i
+
+-- a set that is not empty has a stall
+pub any-test : (n : ℕ) (f : ℕ → Bool) → not (eqb (bits n f) 0) ≡ some n f
+any-test n f = go (some n f) (some-found n f)
+  where
+    go : (t : Bool) → Found n f t → not (eqb (bits n f) 0) ≡ t
+    go t (at s p q e) =
+        ap not (ne-eqb (bits n f) 0 (λ i. true≢false (sym e ∙ sym (has-in n f s p q) ∙ ap (λ x. has x s) i ∙ has-zero s)))
+    go t (nowhere g) = ap not (eq-eqb (bits n f) 0 (bits-agree n f (λ s. false) g ∙ bits-none n))
+
+-- the set of one stall
+single : (n p : ℕ) → 1 ≤ p → bits n (λ s. eqb s p) ≡ cond (leb p n) (2 ^ (p - 1)) 0
+unfolding bits
+single zero p l = ap (λ t. cond t (2 ^ (p - 1)) 0) (sym (lt-leb p 0 l))
+single (suc n) p l =
+    elim (ℕ-discrete (suc n) p) [
+      | yes e ↦
+          let i : n ≡ p - 1 = omega arith in
+          rw (single n p l, lt-leb p n (omega arith), eq-eqb (suc n) p e, le-leb p (suc n) (omega arith), ← i) (omega arith)
+      | no e ↦ elim (decLe p n) [
+        | yes a ↦ rw (single n p l, le-leb p n a, ne-eqb (suc n) p e, le-leb p (suc n) (omega arith)) (omega arith)
+        | no a ↦ rw (single n p l, lt-leb p n (omega arith), ne-eqb (suc n) p e, lt-leb p (suc n) (omega arith)) refl
+      ]
+    ]
+
+pub one-bits : (n p : ℕ) → 1 ≤ p → p ≤ n → n ≤ 64 → bitOf p ≡ bits n (λ s. eqb s p)
+one-bits n p a b c = bitOf-is a (omega arith) ∙ sym (single n p a ∙ ap (λ t. cond t (2 ^ (p - 1)) 0) (le-leb p n b))
