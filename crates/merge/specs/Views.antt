@@ -13,7 +13,6 @@ use Rattle.image.specs.declared.Name.{Name}
 use Rattle.image.specs.declared.Name.the-variants.{Never, With}
 use Rattle.merge.specs.Known.{common}
 use Rattle.merge.specs.Verdict.{sameName, verdict}
-use Rattle.merge.specs.Label.{isMeeting}
 use Rattle.merge.specs.declared.View.{View}
 use Rattle.merge.specs.declared.Decided.{Decided}
 
@@ -40,7 +39,8 @@ across n d = cond (leb 1 d && leb d n) ((d - 1) * 2) 0
 -- x, the name in column c, names a meeting that the other own row names too: y has it in that column, or the partner's column of theirs, of n, has it
 unfoldable pub shared : ℕ → ℕ → Name → Name → (ℕ → Name) → Bool
 shared n c x y theirs =
-    not (isNever x) && (sameName x y || leb (partnerIn x) n && isMeeting c (labelIn x) (theirs (partnerIn x)))
+    let z = theirs (partnerIn x) in
+    not (isNever x) && (sameName x y || leb (partnerIn x) n && (eqb c (partnerIn z) && eqb (labelIn x) (labelIn z)))
 
 -- the columns 1 to m of an own row of n names, mine, against another, theirs
 pub record Views (n : ℕ) (mine theirs : ℕ → Name) (m : ℕ) (x : View) : Type 0 where

@@ -68,7 +68,7 @@ fn across(n: u8, d: u8) -> usize
 
 // Column c of an own row, at a, against the other own row, which starts at row and has its column c at b: the meeting can stand there only in column c and in its partner's.
 fn column(mine: &[u8], a: usize, theirs: &[u8], b: usize, row: usize, n: u8, c: u8) -> Seen
-    requires { ⌜ (a + 1 < length (now mine)) × (b + 1 < length (now theirs)) × (row + n * 2 ≤ length (now theirs)) × (1 ≤ n) × (1 ≤ c) ⌝ }
+    requires { ⌜ (a + 1 < length (now mine)) × (b + 1 < length (now theirs)) × (row + n * 2 ≤ length (now theirs)) × (1 ≤ n) ⌝ }
     ensures { λ r.
         ⌜ (r .common ≡ shared n c (nameIn (now (mine .entry)) a) (nameIn (now (theirs .entry)) b) (rowName (now (theirs .entry)) row))
         × (r .heard ≡ not (isNever (nameIn (now (mine .entry)) a)))
@@ -84,7 +84,7 @@ fn column(mine: &[u8], a: usize, theirs: &[u8], b: usize, row: usize, n: u8, c: 
     let z = g.name;
     let heard = !(d == 0);
     let same = (d == partner_of(y)) & (k == label_of(y));
-    let crossed = (d <= n) & ((partner_of(z) == c) & (label_of(z) == k));
+    let crossed = (d <= n) & ((c == partner_of(z)) & (k == label_of(z)));
     Seen {
         common: heard & (same | crossed),
         heard,

@@ -1,5 +1,4 @@
 -- One column of an own row, seen against the other own row.
-use mathlib.Core.Path.{ap, _∙_}
 use native.Mathlib.Omega.{arith}
 use borrow.Author.Needs.{needs}
 use Rattle.merge.proofs.Columns.{across-fits, seen-heard, seen-same, seen-common}
@@ -30,7 +29,7 @@ column-spec =
     let k = c .before .before .before .before .before .before .label-of .ensures in
     let e = c .before .before .before .partner-of2 .ensures in
     let l = c .before .before .label-of2 .ensures in (
-      seen-common (start .args .mine .now) (start .args .theirs .now) (start .args .a) (start .args .b) x y d k e l (start .args .n) (start .args .c) (start .args .row) _ (start .pre .4) (c .before .before .before .before .before .across .ensures) _ z _ _ (c .before .partner-of3 .ensures) (c .label-of3 .ensures),
+      seen-common (start .args .mine .now) (start .args .theirs .now) (start .args .a) (start .args .b) x y d k e l (start .args .n) (start .args .c) (start .args .row) _ (c .before .before .before .before .before .across .ensures) z (c .before .partner-of3 .ensures) (c .label-of3 .ensures),
       seen-heard (start .args .mine .now) (start .args .theirs .now) (start .args .a) (start .args .b) x y d k e l,
       seen-same (start .args .mine .now) (start .args .theirs .now) (start .args .a) (start .args .b) x y d k e l,
     )))
