@@ -30,7 +30,7 @@ view-spec =
     Inv-loop
     μ-loop
     (λ c. (omega arith, omega arith, omega arith, bit-start, gather-start _, gather-start _, gather-start _))
-    (λ c κs. (omega arith, omega arith, omega arith, omega arith, omega arith))
+    (λ c κs. (omega arith, omega arith, omega arith, omega arith))
     (λ c κs. tt)
     (λ c. let i = c .before .before .before .loop .inv in omega (arith, gathered-lt (i .4) (i .3), bit-le largest (i .3) (omega arith), c .pick .ensures))
     (λ c κs. tt)
