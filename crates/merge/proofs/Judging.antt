@@ -4,11 +4,12 @@ use mathlib.Core.Path.{_≡_, ap, subst, _∙_}
 use mathlib.Core.Bool.{_||_, not}
 use mathlib.Core.List.{List}
 use native.Mathlib.Omega.{arith}
+use native.Mathlib.Numerals.{add-one}
 use lib.Bits.{bitAnd}
 use lib.Dec.{eqb}
 use lib.ListN.{getD}
 use Rattle.image.specs.Stalls.{bits, has}
-use Rattle.image.specs.Layout.{orderPlace, orderAt, nameAt, markAt}
+use Rattle.image.specs.Layout.{orderFrom, orderPlace, orderAt, nameAt, markAt}
 use Rattle.image.specs.Frame.{Framed}
 use Rattle.image.specs.Row.{isNever, neverAt, ownRow}
 use Rattle.image.specs.Encode.{tableOf}
@@ -47,14 +48,14 @@ verdict-bytes s u n p q f g mine theirs e i r order other mask back a b j k m w 
 
 -- the same with places that count from 0
 pub verdict-next : (s u : List ℕ) (n p q : ℕ) → Framed s n p → Framed u n q → (mine theirs : List Entry) → mine ≡ ownRow s n p → theirs ≡ ownRow u n q
-    → (r at order other mask back x : ℕ) → r < n → at ≡ orderPlace n (r + 1) → order ≡ getD s at 0 → other ≡ getD u at 0
+    → (r at order other mask back x : ℕ) → r < n → at ≡ orderPlace n (r + 1) → order ≡ orderFrom s n at → other ≡ orderFrom u n at
     → mask ≡ bits n (common n (nameIn mine) (nameIn theirs)) → back ≡ bits n (common n (nameIn theirs) (nameIn mine))
     → x ≡ judge (isNever (getD mine r (neverAt 0) .name) || not (eqb (bitAnd order mask) 0)) (isNever (getD theirs r (neverAt 0) .name) || not (eqb (bitAnd other back) 0)) (sameName (getD mine r (neverAt 0) .name) (getD theirs r (neverAt 0) .name))
     → x ≡ verdict n p (tableOf s n) q (tableOf u n) (suc r)
 verdict-next s u n p q f g mine theirs e i r at order other mask back x l a j k m w d =
     let down : suc r - 1 ≡ r = omega arith in
-    let place : at ≡ orderPlace n (suc r) = omega arith in
+    let place : at ≡ orderPlace n (suc r) = a ∙ ap (orderPlace n) (add-one r) in
     d ∙ subst
     (λ z. judge (isNever (getD mine z (neverAt 0) .name) || not (eqb (bitAnd order mask) 0)) (isNever (getD theirs z (neverAt 0) .name) || not (eqb (bitAnd other back) 0)) (sameName (getD mine z (neverAt 0) .name) (getD theirs z (neverAt 0) .name)) ≡ verdict n p (tableOf s n) q (tableOf u n) (suc r))
     down
-    (verdict-bytes s u n p q f g mine theirs e i (suc r) order other mask back (omega arith) l (j ∙ ap (λ z. getD s z 0) place) (k ∙ ap (λ z. getD u z 0) place) m w)
+    (verdict-bytes s u n p q f g mine theirs e i (suc r) order other mask back (omega arith) l (j ∙ ap (orderFrom s n) place) (k ∙ ap (orderFrom u n) place) m w)

@@ -1,4 +1,4 @@
--- The order byte that is put together from sets is that of the merged marks.
+-- The order entry that is put together from sets is that of the merged marks.
 use Prim.Native.Nat.{ℕ, _^_, _≤_, _<_}
 use mathlib.Core.Path.{_≡_, refl, sym, ap, ap₂, _∙_}
 use mathlib.Core.Bool.{Bool, true, false, _&&_, _||_, not, cond, or-false, and-comm, false≢true}
@@ -113,7 +113,7 @@ module _ (n p : ℕ) (a : Table) (q : ℕ) (b : Table) (v : ℕ → ℕ) (x : Se
           ≡ mergedOrder n p a q b r s
       ruled s = rw (hh, apart)
 
--- The order byte of one of the two that met is the set of the two
+-- The order entry of one of the two that met is the set of the two
 
 met-named : (n p : ℕ) (a : Table) (q : ℕ) (b : Table) (r : ℕ) → isMet p q r ≡ true → isNever (latestName n p a q b r) ≡ false
 unfolding latestName

@@ -1,13 +1,14 @@
--- The order bytes that the code puts together from sets are those of the tables.
+-- The order entries that the code puts together from sets are those of the tables.
 use Prim.Native.Nat.{ℕ, suc, _+_, _-_, _%_, _≤_, _<_}
 use mathlib.Core.Path.{_≡_, refl, ap, ap₂, _∙_}
 use mathlib.Core.Bool.{Bool, true, false, cond}
 use mathlib.Core.List.{List}
 use native.Mathlib.Omega.{arith}
+use native.Mathlib.Numerals.{add-one}
 use lib.ListN.{getD}
 use lib.Pow.{pow-mono}
 use Rattle.image.specs.Stalls.{bits, has}
-use Rattle.image.specs.Layout.{largest, orderPlace, orderAt, markAt}
+use Rattle.image.specs.Layout.{largest, orderFrom, orderPlace, orderAt, markAt}
 use Rattle.image.specs.Frame.{Framed}
 use Rattle.image.specs.Row.{neverAt, ownRow}
 use Rattle.image.specs.Encode.{tableOf}
@@ -22,10 +23,10 @@ use Rattle.merge.specs.Orders.{Sorted, orderOf, heardFrom}
 use Rattle.merge.proofs.Judging.{mine-name}
 use Rattle.merge.proofs.Marks.{order-byte, met-byte, heard-is}
 
--- a set of 1 to n fits a byte
-fits-byte : (n : ℕ) (f : ℕ → Bool) → n ≤ largest → bits n f % 256 ≡ bits n f
-fits-byte n f l =
-    let a : bits n f < 256 = omega (arith, bits-lt n f, pow-mono {i = n} {j = largest} l) in
+-- a set of 1 to n fits an order entry by value
+fits : (n : ℕ) (f : ℕ → Bool) → n ≤ largest → bits n f % 65536 ≡ bits n f
+fits n f l =
+    let a : bits n f < 65536 = omega (arith, bits-lt n f, pow-mono {i = n} {j = largest} l) in
     omega arith
 
 module _ (s u : List ℕ) (n p q : ℕ) (f : Framed s n p) (g : Framed u n q) (mine theirs : List Entry) (e : mine ≡ ownRow s n p) (i : theirs ≡ ownRow u n q)
@@ -47,13 +48,13 @@ module _ (s u : List ℕ) (n p q : ℕ) (f : Framed s n p) (g : Framed u n q) (m
   made order other t z =
       cond (isMet p q t) (x .pair) (orderOf x (getD verdicts z 0) order other (heardFrom (getD verdicts z 0) (getD mine z (neverAt 0) .name) (getD theirs z (neverAt 0) .name)))
 
-  pub order-next : (r at t order other y : ℕ) → r < n → at ≡ orderPlace n (r + 1) → t ≡ r + 1 → order ≡ getD s at 0 → other ≡ getD u at 0
-      → y ≡ made order other t r % 256 → y ≡ bits n (mergedOrder n p (tableOf s n) q (tableOf u n) (suc r))
+  pub order-next : (r at t order other y : ℕ) → r < n → at ≡ orderPlace n (r + 1) → t ≡ r + 1 → order ≡ orderFrom s n at → other ≡ orderFrom u n at
+      → y ≡ made order other t r % 65536 → y ≡ bits n (mergedOrder n p (tableOf s n) q (tableOf u n) (suc r))
   order-next r at t order other y l a b k m d =
       let down : r ≡ suc r - 1 = omega arith in
       let stall : t ≡ suc r = omega arith in
-      let place : at ≡ orderPlace n (suc r) = omega arith in
+      let place : at ≡ orderPlace n (suc r) = a ∙ ap (orderPlace n) (add-one r) in
       d
-      ∙ ap₂ (λ v z. made order other v z % 256) stall down
-      ∙ ap (λ v. v % 256) (by-meeting (suc r) order other (omega arith) l (k ∙ ap (λ z. getD s z 0) place) (m ∙ ap (λ z. getD u z 0) place) (isMet p q (suc r)) refl)
-      ∙ fits-byte n _ (f .n-to)
+      ∙ ap₂ (λ v z. made order other v z % 65536) stall down
+      ∙ ap (λ v. v % 65536) (by-meeting (suc r) order other (omega arith) l (k ∙ ap (orderFrom s n) place) (m ∙ ap (orderFrom u n) place) (isMet p q (suc r)) refl)
+      ∙ fits n _ (f .n-to)

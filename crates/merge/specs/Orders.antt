@@ -6,7 +6,7 @@ use mathlib.Core.Bool.{Bool, _&&_, not, cond}
 use lib.Bits.{bitAnd, bitOr}
 use mathlib.Core.List.{List}
 use lib.Dec.{eqb}
-use Rattle.image.specs.Layout.{longestRow}
+use Rattle.image.specs.Layout.{largest}
 use Rattle.image.specs.Stalls.{bits}
 use Rattle.image.specs.Encode.{tableOf}
 use Rattle.image.specs.Row.{isNever}
@@ -22,7 +22,7 @@ pub record Sorted (n p q : ℕ) (v : ℕ → ℕ) (m : ℕ) (x : Sets) : Type 0 
   pub second-is : x .second ≡ bits m (λ s. not (isMet p q s) && not (eqb (v s) 1))
   pub alone-is : x .alone ≡ bits m (λ s. not (isMet p q s) && eqb (v s) 2)
 
--- the order byte of a stall that did not meet, by its verdict and both order bytes
+-- the order entry of a stall that did not meet, by its verdict and both order entries
 abbrev pub orderOf : Sets → ℕ → ℕ → ℕ → Bool → ℕ
 orderOf x v mine theirs heard =
     bitOr (cond heard (x .pair) 0)
@@ -32,6 +32,6 @@ orderOf x v mine theirs heard =
 abbrev pub heardFrom : ℕ → Name → Name → Bool
 heardFrom v x y = cond (eqb v 2) (not (isNever y)) (not (isNever x))
 
--- the order bytes of the first m stalls after images s and u met
+-- the order entries of the first m stalls, as numbers, after images s and u met
 abbrev pub Ordered : List ℕ → List ℕ → ℕ → ℕ → ℕ → ℕ → List ℕ → Type 0
-Ordered s u n p q m = ByStall 0 longestRow m (λ r. bits n (mergedOrder n p (tableOf s n) q (tableOf u n) r))
+Ordered s u n p q m = ByStall 0 largest m (λ r. bits n (mergedOrder n p (tableOf s n) q (tableOf u n) r))

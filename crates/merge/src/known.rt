@@ -16,10 +16,11 @@ ghost use Rattle.merge.specs.Judged.{verdictIn, Judged};
 use image::Entry;
 use image::Name;
 use image::STALLS;
-use image::bytes::orders_place;
 use image::bytes::wide;
 use image::marks::pick;
-use image::marks::widen;
+use image::orders::order_at;
+use image::orders::order_width;
+use image::orders::orders_place;
 use image::rows::is_never;
 use image::rows::own_row;
 
@@ -104,7 +105,7 @@ fn common_set(mine: [Entry; STALLS], theirs: [Entry; STALLS], n: u8) -> u64
     set
 }
 
-// A latest is known by its order byte and the common columns.
+// A latest is known by its order entry and the common columns.
 fn is_known(x: Name, order: u64, set: u64) -> bool
     ensures { λ r. ⌜ r ≡ (isNever x || not (eqb (bitAnd order set) 0)) ⌝ }
 {
@@ -129,7 +130,7 @@ fn judge(first: bool, second: bool, same: bool) -> u8
     9
 }
 
-// The verdict on one stall, by the names, order bytes and common columns of both.
+// The verdict on one stall, by the names, order entries and common columns of both.
 fn verdict_at(x: Entry, y: Entry, mine: u64, theirs: u64, set: u64, other: u64) -> u8
     ensures { λ r.
         ⌜ r
@@ -163,13 +164,21 @@ fn judge_all(
 {
     let mut out = [0u8; STALLS];
     let m = wide(n);
+    let width = order_width(m);
     let mut at = orders_place(first.len(), m);
     let mut r = 0usize;
     while r < m {
         let x = mine[r];
         let y = theirs[r];
-        out[r] = verdict_at(x, y, widen(first[at]), widen(second[at]), set, other);
-        at += 1;
+        out[r] = verdict_at(
+            x,
+            y,
+            order_at(first, m, at),
+            order_at(second, m, at),
+            set,
+            other,
+        );
+        at += width;
         r += 1;
     }
     out

@@ -11,12 +11,12 @@ ghost use Rattle.merge.specs.Judged.{verdictIn, Judged};
 ghost use Rattle.merge.specs.Orders.{Sorted, orderOf, heardFrom, Ordered};
 use crate::Sets;
 use image::Entry;
-use image::ROW;
 use image::STALLS;
-use image::bytes::orders_place;
 use image::bytes::wide;
 use image::marks::pick;
-use image::marks::widen;
+use image::orders::order_at;
+use image::orders::order_width;
+use image::orders::orders_place;
 use image::rows::is_never;
 use image::rows::own_row;
 
@@ -49,7 +49,7 @@ fn sorted(verdicts: [u8; STALLS], n: u8, p: u8, q: u8) -> Sets
     }
 }
 
-// The order byte of a stall that did not meet.
+// The order entry of a stall that did not meet.
 fn order_of(x: Sets, v: u8, mine: u64, theirs: u64, heard: bool) -> u64
     ensures { λ r. ⌜ r ≡ orderOf x v mine theirs heard ⌝ }
 {
@@ -83,17 +83,17 @@ fn is_heard(v: u8, a: Entry, b: Entry) -> bool
     !is_never(x)
 }
 
-// The order byte of a stall.
-fn order_byte(x: Sets, met: bool, v: u8, a: Entry, b: Entry, mine: u64, theirs: u64) -> u8
-    ensures { λ r. ⌜ r ≡ cond met (x .pair) (orderOf x v mine theirs (heardFrom v (a .name) (b .name))) % 256 ⌝ }
+// The order entry of a stall.
+fn order_byte(x: Sets, met: bool, v: u8, a: Entry, b: Entry, mine: u64, theirs: u64) -> u16
+    ensures { λ r. ⌜ r ≡ cond met (x .pair) (orderOf x v mine theirs (heardFrom v (a .name) (b .name))) % 65536 ⌝ }
 {
     if met {
-        return (x.pair % 256) as u8;
+        return (x.pair % 65536) as u16;
     }
-    (order_of(x, v, mine, theirs, is_heard(v, a, b)) % 256) as u8
+    (order_of(x, v, mine, theirs, is_heard(v, a, b)) % 65536) as u16
 }
 
-// The order bytes of all stalls; past n zeros.
+// The order entries of all stalls; past n zeros.
 pub(crate) fn merged_orders(
     first: &[u8],
     second: &[u8],
@@ -104,14 +104,15 @@ pub(crate) fn merged_orders(
     mine: [Entry; STALLS],
     theirs: [Entry; STALLS],
     x: Sets,
-) -> [u8; ROW]
+) -> [u16; STALLS]
     requires { ⌜ Framed (now first) n p × Framed (now second) n q ⌝ }
     requires { ⌜ (mine ≡ ownRow (now first) n p) × (theirs ≡ ownRow (now second) n q) ⌝ }
     requires { ⌜ Judged (now first) (now second) n p q n verdicts × Sorted n p q (verdictIn verdicts) n x ⌝ }
     ensures { λ r. ⌜ Ordered (now (first .entry)) (now (second .entry)) n p q n r ⌝ }
 {
-    let mut out = [0u8; ROW];
+    let mut out = [0u16; STALLS];
     let m = wide(n);
+    let width = order_width(m);
     let mut at = orders_place(first.len(), m);
     let mut s = 1u8;
     let mut r = 0usize;
@@ -125,17 +126,17 @@ pub(crate) fn merged_orders(
             verdicts[r],
             a,
             b,
-            widen(first[at]),
-            widen(second[at]),
+            order_at(first, m, at),
+            order_at(second, m, at),
         );
-        at += 1;
+        at += width;
         s += 1;
         r += 1;
     }
     out
 }
 
-// The order bytes after a meeting with these verdicts.
+// The order entries after a meeting with these verdicts.
 pub(crate) fn orders_after(
     first: &[u8],
     second: &[u8],
@@ -143,7 +144,7 @@ pub(crate) fn orders_after(
     p: u8,
     q: u8,
     verdicts: [u8; STALLS],
-) -> [u8; ROW]
+) -> [u16; STALLS]
     requires { ⌜ Framed (now first) n p × Framed (now second) n q × Judged (now first) (now second) n p q n verdicts ⌝ }
     ensures { λ r. ⌜ Ordered (now (first .entry)) (now (second .entry)) n p q n r ⌝ }
 {

@@ -1,4 +1,4 @@
--- A latest is known by its order byte and the common columns.
+-- A latest is known by its order entry and the common columns.
 use Rattle.merge.proofs.known.is_known.Statement.{statement}
 use Rattle.merge.proofs.known.is_known.Tie as tie
 

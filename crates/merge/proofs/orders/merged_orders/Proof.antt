@@ -1,8 +1,10 @@
--- The order bytes of all stalls.
+-- The order entries of all stalls.
 use Prim.Native.Nat.{_+_, _-_, _≤_}
-use mathlib.Core.Path.{_≡_, refl, subst}
+use mathlib.Core.Path.{_≡_, refl, ap, subst, _∙_}
 use native.Mathlib.Omega.{arith}
-use Rattle.image.specs.Layout.{orderPlace}
+use Rattle.image.specs.Layout.{orderFrom, orderPlace}
+use Rattle.image.proofs.OrderEntry.{entry-within, entry-next}
+use Rattle.image.proofs.Places.{orders-from}
 use Rattle.merge.specs.Orders.{Ordered}
 use Rattle.merge.proofs.ByStalls.{by-stall-start, by-stall-next}
 use Rattle.merge.proofs.OrderBytes.{order-next}
@@ -10,11 +12,11 @@ use Rattle.merge.proofs.orders.merged_orders.Statement.{statement}
 use Rattle.merge.proofs.orders.merged_orders.Tie as tie
 
 abbrev Inv-loop : tie.InvT-loop
-Inv-loop first second n p q x verdicts mine theirs out₀ m at₀ s₀ r₀ out at s r =
+Inv-loop first second n p q x verdicts mine theirs out₀ m width at₀ s₀ r₀ out at s r =
     Ordered first second n p q r out × (r ≤ m) × (m ≡ n) × (at ≡ orderPlace n (r + 1)) × (s ≡ r + 1)
 
 abbrev μ-loop : tie.MeasureT-loop
-μ-loop first second n p q x verdicts mine theirs out₀ m at₀ s₀ r₀ out at s r = m - r
+μ-loop first second n p q x verdicts mine theirs out₀ m width at₀ s₀ r₀ out at s r = m - r
 
 pub merged-orders-spec : {M : Type 1} → statement M
 merged-orders-spec =
@@ -24,33 +26,40 @@ merged-orders-spec =
     μ-loop
     (λ c κs. tt)
     (λ c κs. tt)
-    (λ c. (by-stall-start refl, omega arith, c .before .wide .ensures .0, omega (arith, c .before .wide .ensures .0), omega arith))
+    (λ c κs. tt)
+    (λ c.
+    let m-is = c .before .before .wide .ensures .0 in
+    (by-stall-start refl, omega arith, m-is, omega (arith, orders-from (c .before .before .before .before .before .pre .0 .0 .long) m-is (c .orders-place .ensures)), omega arith))
     (λ c. omega arith)
     (λ c. omega arith)
     (λ c. omega arith)
     (λ c. omega arith)
     (λ c. omega arith)
-    (λ c. omega arith)
+    (λ c κs. let l = c .before .before .before .loop in entry-within _ _ (l .r) (c .before .before .before .before .before .before .before .before .before .pre .0 .0 .long) (l .inv .2) (l .inv .3) (c .before .before .loop-test .taken))
+    (λ c κs. let l = c .before .before .before .before .loop in entry-within _ _ (l .r) (c .before .before .before .before .before .before .before .before .before .before .pre .0 .1 .long) (l .inv .2) (l .inv .3) (c .before .before .before .loop-test .taken))
     (λ c κs. tt)
     (λ c. omega arith)
-    (λ c κs. tt)
-    (λ c κs. tt)
     (λ c. omega arith)
-    (λ c. omega arith)
+    (λ c.
+    let l = c .before .before .before .before .before .before .loop in
+    omega (arith, c .before .before .before .before .before .before .before .before .order-width .ensures, entry-within _ _ (l .r) (c .before .before .before .before .before .before .before .before .before .before .before .before .pre .0 .0 .long) (l .inv .2) (l .inv .3) (c .before .before .before .before .before .loop-test .taken)))
     (λ c. omega arith)
     (λ c. omega arith)
     (λ c. omega arith)
     (λ c.
-    let a = c .before .before .before .before .before .before .before .before .before .before .before .before .before .args in
-    let h = c .before .before .before .before .before .before .before .before .before .before .before .before .before .pre in
-    let l = c .before .before .before .before .before .before .before .before .loop in (
+    let a = c .before .before .before .before .before .before .before .before .before .before .before .before .args in
+    let h = c .before .before .before .before .before .before .before .before .before .before .before .before .pre in
+    let l = c .before .before .before .before .before .before .loop in
+    let mine = c .before .before .order-at in
+    let theirs = c .before .order-at2 in (
       by-stall-next (l .inv .0) (omega arith) (c .order-byte .result)
           (order-next (a .first .now) (a .second .now) (a .n) (a .p) (a .q) (h .0 .0) (h .0 .1) (a .t7) (a .t8) (h .1 .0 .0) (h .1 .0 .1) (a .t6) (a .x) (h .1 .1 .0) (h .1 .1 .1)
-          (l .r) (l .at) (l .s) (c .before .before .before .widen .result) (c .before .widen2 .result) (c .order-byte .result)
-          (omega arith) (l .inv .3) (l .inv .4) (c .before .before .before .widen .ensures .0) (c .before .widen2 .ensures .0) (c .order-byte .ensures)),
+          (l .r) (l .at) (l .s) (mine .result) (theirs .result) (c .order-byte .result)
+          (omega arith) (l .inv .3) (l .inv .4) (mine .ensures .0 ∙ ap (λ k. orderFrom (a .first .now) k (l .at)) (l .inv .2)) (theirs .ensures .0 ∙ ap (λ k. orderFrom (a .second .now) k (l .at)) (l .inv .2)) (c .order-byte .ensures)),
       omega arith,
       l .inv .2,
-      omega arith,
+      entry-next (a .n) _ (l .r) (l .inv .2) (c .before .before .before .before .before .before .before .before .order-width .ensures) (l .inv .3),
       omega arith,
     ))
-    (λ c. subst (λ k. Ordered (c .before .before .before .before .before .before .args .first .now) (c .before .before .before .before .before .before .args .second .now) (c .before .before .before .before .before .before .args .n) (c .before .before .before .before .before .before .args .p) (c .before .before .before .before .before .before .args .q) k (c .before .loop .out)) (let e : c .before .loop .r ≡ c .before .before .before .before .before .before .args .n = omega arith in e) (c .before .loop .inv .0)))
+    (λ c. let a = c .before .before .before .before .before .before .before .args in
+    subst (λ k. Ordered (a .first .now) (a .second .now) (a .n) (a .p) (a .q) k (c .before .loop .out)) (let e : c .before .loop .r ≡ a .n = omega arith in e) (c .before .loop .inv .0)))

@@ -1,4 +1,4 @@
--- The order byte of a stall.
+-- The order entry of a stall.
 use borrow.Author.Needs.{needs}
 use Rattle.merge.proofs.orders.order_byte.Statement.{statement}
 use Rattle.merge.proofs.orders.order_byte.Tie as tie

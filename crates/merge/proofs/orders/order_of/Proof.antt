@@ -1,4 +1,4 @@
--- The order byte of a stall that did not meet.
+-- The order entry of a stall that did not meet.
 use Rattle.merge.proofs.orders.order_of.Statement.{statement}
 use Rattle.merge.proofs.orders.order_of.Tie as tie
 
