@@ -17,6 +17,11 @@ pub order-wide : (n : ℕ) → 1 ≤ orderWidth n
 unfolding orderWidth
 order-wide n = omega arith
 
+-- at most that of the largest parlour
+pub order-most : (n : ℕ) → n ≤ largest → orderWidth n ≤ orderWidth largest
+unfolding orderWidth
+order-most n l = omega arith
+
 pub length-order : (n x : ℕ) → length (orderBytes n x) ≡ orderWidth n
 unfolding orderWidth orderBytes
 length-order n x = refl
