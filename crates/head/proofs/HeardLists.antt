@@ -15,6 +15,7 @@ use Rattle.image.specs.Frame.{Framed}
 use Rattle.image.specs.Row.{isNever, ownRow}
 use Rattle.image.specs.declared.Name.the-variants.{Never, With}
 use Rattle.image.specs.declared.Entry.{Entry}
+use Rattle.image.proofs.Places.{yields-from}
 use Rattle.image.proofs.OwnRow.{own-row-name}
 use Rattle.head.specs.Heard.{occurrences, recordOf, HeardList}
 use Rattle.head.specs.HeardOrder.{heardIn, chosen, recordAt, recordsTo}
@@ -151,7 +152,7 @@ module _ (s : List ℕ) (n own m : ℕ) (row : List Entry) (d mid out : List ℕ
     (at : ℕ) (stands : at ≡ yieldsFrom (length s) m) (mids : mid ≡ recordsTo s at row m ++ drop end d)
     (outs : out ≡ take end mid ++ replicate (length mid - end) 0) where
   yields-at : at ≡ yieldsPlace n
-  yields-at = omega (arith, f .long)
+  yields-at = yields-from (f .long) i stands
 
   -- the records written are those of the definition
   same-records : recordsTo s at row m ≡ flatMap (recordOf s n) (chosen m (heardIn row))

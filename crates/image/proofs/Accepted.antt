@@ -15,6 +15,7 @@ use Rattle.image.specs.declared.Header.{Header}
 use Rattle.image.specs.declared.Checked.{Checked}
 use Rattle.image.specs.declared.Checked.the-variants.{Good, Refused}
 use Rattle.image.proofs.Passing.{not-fails}
+use Rattle.image.proofs.OrderEntry.{length-is}
 use Rattle.image.proofs.Encoding.{encode-accepted}
 use Rattle.image.proofs.Stages.{sized, framed, good-body, checked-body}
 
@@ -64,7 +65,7 @@ within {a} {b} {x} p q = rw (le-leb a x p, le-leb x b q)
 pub checked-accepted : {s : List ℕ} {n own : ℕ} → Accepted s n own → checked s ≡ Good (record { n = n; stall = own })
 checked-accepted {s} {n} {own} w =
     let f = w .frame in
-    let z : length s ≡ lengthOf n = rw (le-leb 2 n (f .n-from), le-leb n largest (f .n-to)) (omega (arith, f .long)) in
+    let z : length s ≡ lengthOf n = f .long ∙ sym (length-is n (f .n-from) (f .n-to)) in
     sym (checked-body s (λ e. omega (arith, f .long)) (rw (w .count) (within (f .n-from) (f .n-to))) (rw (w .count) z))
     ∙ ap₂ (checkBody s) (w .count) (w .stall)
     ∙ sym (good-body s n own (within (f .own-from) (f .own-to)) (w .yields) (w .names) (w .marks))

@@ -1,5 +1,5 @@
 -- The image of a table, read back: what stands where in it, and that an accepted image is the image of what it says.
-use Prim.Native.Nat.{ℕ, zero, suc, _+_, _-_, _*_, _/_, _%_, _^_, _≤_, _<_}
+use Prim.Native.Nat.{ℕ, zero, suc, _+_, _-_, _/_, _%_, _^_, _≤_, _<_}
 use mathlib.Core.Path.{_≡_, refl, sym, ap, ap₂, _∙_}
 use mathlib.Core.Bool.{Bool, true, false, _&&_, _||_, not, cond, true≢false}
 use mathlib.Core.List.{List, [], _∷_, _++_}
@@ -9,24 +9,25 @@ use lib.Dec.{leb, ltb, eqb}
 use lib.ListN.{length, getD, length-append, replicate, length-replicate}
 use lib.Pow.{pow-mono}
 use Rattle.image.specs.Stalls.{some, each, bits, has}
-use Rattle.image.specs.Layout.{largest, labelLimit, word, namePlace, yieldPlace, orderPlace, currentAt, partnerAt, labelAt, yieldAt, orderAt, markAt, nameFrom, nameAt, heardAt, imageLength, ordersPlace, yieldsPlace}
+use Rattle.image.specs.Layout.{largest, labelLimit, word, namePlace, yieldPlace, orderWidth, orderPlace, currentAt, partnerAt, labelAt, yieldAt, orderAt, markAt, nameFrom, nameAt, heardAt, imageLength, ordersPlace, yieldsPlace}
 use Rattle.image.specs.Frame.{Framed}
 use Rattle.image.specs.Check.{badName, badDiagonal, badUnheard, badRow, badNames, badOrder, badMarks}
-use Rattle.image.specs.Encode.{Table, nameBytes, wordBytes, encode, tableOf, nothing}
+use Rattle.image.specs.Encode.{Table, nameBytes, wordBytes, orderBytes, encode, tableOf, nothing}
 use Rattle.image.specs.declared.Name.{Name}
 use Rattle.image.specs.declared.Name.the-variants.{Never, With}
 use Rattle.image.proofs.Bits.{has-ext, has-bits, bits-lt}
 use Rattle.image.proofs.Tables.{none-at}
 use Rattle.image.proofs.Passing.{or-fails}
 use Rattle.image.proofs.Places.{row-within}
-use Rattle.image.proofs.Has.{Has, has-place, has-self, has-whole, has-first, has-one, has-two, has-left, has-right, has-zeros, has-both, length-each, has-each, each-has}
+use Rattle.image.proofs.Has.{Has, has-place, has-self, has-whole, has-first, has-two, has-left, has-right, has-zeros, has-both, length-each, has-each, each-has}
+use Rattle.image.proofs.OrderEntry.{length-order, order-back, order-bound, order-has, order-zeros, order-within}
 
 -- the bytes s show the table t, place by place
 pub record Shows (s : List ℕ) (n own : ℕ) (t : Table) : Type 0 where
   pub start : Has s 0 (n ∷ own ∷ wordBytes (t .current))
   pub names : (r c : ℕ) → 1 ≤ r → r ≤ n → 1 ≤ c → c ≤ n → Has s (namePlace n r c) (nameBytes (t .names r c))
   pub yields : (r : ℕ) → 1 ≤ r → r ≤ n → Has s (yieldPlace n r) (wordBytes (t .yields r))
-  pub order : (r : ℕ) → 1 ≤ r → r ≤ n → Has s (orderPlace n r) (bits n (t .order r) ∷ [])
+  pub order : (r : ℕ) → 1 ≤ r → r ≤ n → Has s (orderPlace n r) (orderBytes n (bits n (t .order r)))
 
 pub name-wide : (x : Name) → length (nameBytes x) ≡ 2
 name-wide Never = refl
@@ -44,12 +45,15 @@ module _ (n own : ℕ) (t : Table) where
   yield-block r = wordBytes (t .yields r)
 
   abbrev order-block : ℕ → List ℕ
-  order-block r = bits n (t .order r) ∷ []
+  order-block r = orderBytes n (bits n (t .order r))
+
+  order-block-wide : (r : ℕ) → length (order-block r) ≡ orderWidth n
+  order-block-wide r = length-order n (bits n (t .order r))
 
   row-wide : (r : ℕ) → length (row-block r) ≡ n + n
   row-wide r = length-each 2 (name-block r) (λ c. name-wide (t .names r c)) n ∙ omega arith
 
-  -- an image up to the names, up to the yields and up to the order bytes
+  -- an image up to the names, up to the yields and up to the order entries
   abbrev to-names : List ℕ
   to-names = n ∷ own ∷ wordBytes (t .current)
 
@@ -72,17 +76,14 @@ module _ (n own : ℕ) (t : Table) where
   unfolding encode
   length-encode =
       length-append to-order (each n order-block)
-      ∙ omega (arith, length-to-order, length-each 1 order-block (λ r. refl) n)
+      ∙ omega (arith, length-to-order, length-each (orderWidth n) order-block order-block-wide n)
 
-  -- where the yields, the order bytes and each of these stand
+  -- where the yields and the order entries stand
   yields-from : 0 + length to-yields ≡ yieldsPlace n
   yields-from = omega (arith, length-to-yields)
 
   order-from : 0 + length to-order ≡ ordersPlace n
   order-from = omega (arith, length-to-order)
-
-  order-at : (r : ℕ) → ordersPlace n + (r - 1) * 1 ≡ orderPlace n r
-  order-at r = omega arith
 
   -- to have the image is to show the table
   pub has-shows : {s : List ℕ} → Has s 0 (encode n own t) → Shows s n own t
@@ -91,12 +92,12 @@ module _ (n own : ℕ) (t : Table) where
       let a = has-left to-order (each n order-block) h in
       let b = has-left to-yields (each n yield-block) a in
       let rows = has-each (n + n) row-block row-wide n (has-right to-names (each n row-block) b) in
-      let bytes = has-each 1 order-block (λ r. refl) n (has-place order-from (has-right to-order (each n order-block) h)) in
+      let bytes = has-each (orderWidth n) order-block order-block-wide n (has-place order-from (has-right to-order (each n order-block) h)) in
       record {
         start = has-left to-names (each n row-block) b;
         names = λ r c i j. has-each 2 (name-block r) (λ c. name-wide (t .names r c)) n (rows r i j) c;
         yields = has-each 2 yield-block (λ r. refl) n (has-place yields-from (has-right to-yields (each n yield-block) a));
-        order = λ r i j. has-place (order-at r) (bytes r i j);
+        order = bytes;
       }
 
   pub shows-has : {s : List ℕ} → imageLength n ≤ length s → Shows s n own t → Has s 0 (encode n own t)
@@ -113,7 +114,7 @@ module _ (n own : ℕ) (t : Table) where
       yields = each-has 2 yield-block (λ r. refl) n (omega arith) (h .yields)
 
       bytes : Has s (ordersPlace n) (each n order-block)
-      bytes = each-has 1 order-block (λ r. refl) n (omega arith) (λ r i j. has-place (sym (order-at r)) (h .order r i j))
+      bytes = each-has (orderWidth n) order-block order-block-wide n (omega arith) (h .order)
 
   pub encode-shows : Shows (encode n own t) n own t
   encode-shows = has-shows (has-self (encode n own t))
@@ -173,7 +174,7 @@ module _ (n own : ℕ) (t : Table) where
     yield-encode = word-back (t .yields r) (encode-shows n own t .yields r r-from r-to)
 
     pub order-encode : orderAt (encode n own t) n r ≡ bits n (t .order r)
-    order-encode = has-first (encode-shows n own t .order r r-from r-to) (omega arith)
+    order-encode = order-back n _ (encode-shows n own t .order r r-from r-to)
 
     pub mark-encode : (s : ℕ) → 1 ≤ s → markAt (encode n own t) n r s ≡ (leb s n && t .order r s)
     unfolding markAt
@@ -221,8 +222,8 @@ bytes-back p l e = go (eqb p 0) refl
     go true d = let i = eqb-true p 0 d in ap₂ (λ x y. x ∷ y ∷ []) (sym i) (sym (e i))
     go false d = refl
 
--- no bit above n, so the set of the bits up to n is the whole byte
-bits-back : (n b : ℕ) → n ≤ largest → b < 256 → ((t : ℕ) → 1 ≤ t → t ≤ largest → (leb t n && has b t) ≡ has b t) → bits n (has b) ≡ b
+-- no bit above n, so the set of the bits up to n is the whole entry
+bits-back : (n b : ℕ) → n ≤ largest → b < 2 ^ largest → ((t : ℕ) → 1 ≤ t → t ≤ largest → (leb t n && has b t) ≡ has b t) → bits n (has b) ≡ b
 bits-back n b l k e =
     has-ext largest (bits n (has b)) b (omega (arith, bits-lt n (has b), pow-mono {i = n} {j = largest} l)) k
     (λ t i j. has-bits n (has b) t i ∙ e t i j)
@@ -274,10 +275,10 @@ encode-accepted s n own f count stall bytes names marks =
     yield : (r : ℕ) → 1 ≤ r → r ≤ n → Has s (yieldPlace n r) (wordBytes (yieldAt s n r))
     yield r i j = word-has s (yieldPlace n r) (omega arith) (bytes (yieldPlace n r + 1))
 
-    order : (r : ℕ) → 1 ≤ r → r ≤ n → Has s (orderPlace n r) (bits n (markAt s n r) ∷ [])
+    order : (r : ℕ) → 1 ≤ r → r ≤ n → Has s (orderPlace n r) (orderBytes n (bits n (markAt s n r)))
     order r i j =
-        rw (bits-back n (orderAt s n r) (f .n-to) (bytes (orderPlace n r)) (λ t. no-mark s n own marks r t i j))
-        (has-one _ (omega arith) refl)
+        rw (bits-back n (orderAt s n r) (f .n-to) (order-bound s n (orderPlace n r) bytes) (λ t. no-mark s n own marks r t i j))
+        (order-has s n (orderPlace n r) (omega (arith, order-within i j)) bytes)
 
 -- The image of a table that has heard nobody
 
@@ -286,10 +287,10 @@ unfolding bits
 bits-none zero = refl
 bits-none (suc n) = omega (arith, bits-none n)
 
-pub fresh-encode : (n own : ℕ) → n ∷ own ∷ replicate (2 + n * (n + n) + n * 2 + n) 0 ≡ encode n own nothing
+pub fresh-encode : (n own : ℕ) → n ∷ own ∷ replicate (imageLength n - 2) 0 ≡ encode n own nothing
 unfolding nothing
 fresh-encode n own =
-    let m = 2 + n * (n + n) + n * 2 + n in
+    let m = imageLength n - 2 in
     let s : List ℕ = n ∷ own ∷ replicate m 0 in
     let zeros = has-zeros m (has-right (n ∷ own ∷ []) (replicate m 0) (has-self s)) in
     let long : length s ≡ imageLength n = omega (arith, length-replicate {A = ℕ} m 0) in
@@ -297,5 +298,5 @@ fresh-encode n own =
       start = has-both (has-left (n ∷ own ∷ []) (replicate m 0) (has-self s)) (zeros 2 2 (omega arith) (omega arith));
       names = λ r c i j k l. zeros (namePlace n r c) 2 (omega arith) (omega (arith, row-within i j));
       yields = λ r i j. zeros (yieldPlace n r) 2 (omega arith) (omega arith);
-      order = λ r i j. rw (bits-none n) (zeros (orderPlace n r) 1 (omega arith) (omega arith));
+      order = λ r i j. rw (bits-none n, ← order-zeros n) (zeros (orderPlace n r) (orderWidth n) (omega arith) (omega (arith, order-within i j)));
     }))

@@ -1,5 +1,5 @@
 -- A fresh image is accepted, and stands at the front of a fresh table.
-use Prim.Native.Nat.{ℕ, _+_, _-_, _*_, _≤_}
+use Prim.Native.Nat.{ℕ, _+_, _-_, _≤_}
 use mathlib.Core.Path.{_≡_, sym, ap, _∙_}
 use mathlib.Core.Bool.{false}
 use mathlib.Core.List.{_∷_, _++_}
@@ -11,7 +11,8 @@ use Rattle.image.specs.Layout.{largest, isCount, longest, lengthOf}
 use Rattle.image.specs.Fresh.{freshImage, freshTable}
 use Rattle.image.specs.Encode.{nothing}
 use Rattle.image.proofs.Encoding.{length-encode, fresh-encode}
-use Rattle.image.proofs.Stages.{length-is, length-range}
+use Rattle.image.proofs.OrderEntry.{length-is}
+use Rattle.image.proofs.Stages.{length-range}
 use Rattle.image.proofs.Accepted.{Accepted}
 use Rattle.image.proofs.Made.{nothing-made}
 use Rattle.image.proofs.MadeAccepted.{made-accepted}
@@ -42,8 +43,7 @@ module _ (n own : ℕ) (n-from : 2 ≤ n) (n-to : n ≤ largest) where
   pub fresh-zeros : freshImage n own ≡ n ∷ own ∷ replicate (lengthOf n - 2) 0
   unfolding freshImage
   fresh-zeros =
-      let e : lengthOf n - 2 ≡ 2 + n * (n + n) + n * 2 + n = omega (arith, length-is n n-from n-to) in
-      sym (ap (λ j. n ∷ own ∷ replicate j 0) e ∙ fresh-encode n own)
+      sym (ap (λ j. n ∷ own ∷ replicate (j - 2) 0) (length-is n n-from n-to) ∙ fresh-encode n own)
 
   -- and so the table has zeros to its end
   pub fresh-bytes : n ∷ own ∷ replicate (longest - 2) 0 ≡ freshTable n own

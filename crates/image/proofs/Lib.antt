@@ -4,11 +4,12 @@ pub mod Bits
 pub mod Tables
 pub mod Gather
 pub mod Places
-pub mod OrderByte
 pub mod Stages
 pub mod Yields
 pub mod Overwrite
 pub mod Has
+pub mod OrderEntry
+pub mod OrderByte
 pub mod Encoding
 pub mod StallSets
 pub mod Accepted

@@ -1,4 +1,4 @@
--- The test of an order byte by masks is the one of document 01, mark by mark.
+-- The test of an order entry by masks is the one of document 01, mark by mark.
 use Prim.Native.Nat.{ℕ, _-_, _^_, _≤_, _<_}
 use mathlib.Core.Path.{_≡_, ap, ap₂, _∙_}
 use mathlib.Core.Bool.{Bool, true, false, _&&_, _||_, not, cond, Bool·not-not}
@@ -16,7 +16,7 @@ allowed : (n : ℕ) (f : ℕ → Bool) (heard : Bool) (t : ℕ) → 1 ≤ t → 
 allowed n f true t l = has-bits n f t l
 allowed n f false t l = has-zero t
 
-pub order-test : (s : List ℕ) (n own r b one ownbit set : ℕ) (heard : Bool) → b < 256
+pub order-test : (s : List ℕ) (n own r b one ownbit set : ℕ) (heard : Bool) → b < 2 ^ largest
     → b ≡ orderAt s n r → heard ≡ heardAt s n own r → set ≡ bits n (heardAt s n own) → one ≡ 2 ^ (r - 1) → ownbit ≡ 2 ^ (own - 1)
     → (not (eqb (bitAnd b (cond heard set 0)) b) || heard && not (not (eqb (bitAnd b one) 0) && not (eqb (bitAnd b ownbit) 0)))
     ≡ badOrder s n own r

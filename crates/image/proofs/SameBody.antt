@@ -10,6 +10,7 @@ use Rattle.image.specs.Stalls.{some, has}
 use Rattle.image.specs.Layout.{largest, isYield, labelLimit, noYield, namePlace, yieldPlace, orderPlace, currentAt, partnerAt, labelAt, yieldAt, markAt, heardAt}
 use Rattle.image.specs.Check.{badName, badDiagonal, badUnheard, badRow, badNames, badOrder, badMarks, badYields}
 use Rattle.image.proofs.Search.{some-agree}
+use Rattle.image.proofs.OrderEntry.{entry-same}
 use Rattle.image.proofs.Accepted.{Accepted, not-either}
 
 module _ (s u : List ℕ) (n own : ℕ) (same : (k : ℕ) → 4 ≤ k → getD u k 0 ≡ getD s k 0) where
@@ -24,7 +25,7 @@ module _ (s u : List ℕ) (n own : ℕ) (same : (k : ℕ) → 4 ≤ k → getD u
 
   mark-same : (r t : ℕ) → markAt u n r t ≡ markAt s n r t
   unfolding markAt
-  mark-same r t = ap (λ b. has b t) (same (orderPlace n r) (omega arith))
+  mark-same r t = ap (λ b. has b t) (entry-same s u n (orderPlace n r) (λ k l. same k (omega arith)))
 
   heard-same : (r : ℕ) → heardAt u n own r ≡ heardAt s n own r
   unfolding heardAt

@@ -5,22 +5,21 @@ use mathlib.Core.Bool.{Bool, true, false, _&&_, not, cond, true≢false}
 use mathlib.Core.List.{List}
 use native.Mathlib.Omega.{arith}
 use native.Mathlib.Nat.{mul-le-mul}
-use borrow.Author.Tests.{leb-true, le-leb, eq-eqb, ne-eqb}
+use borrow.Author.Tests.{leb-true, eq-eqb, ne-eqb}
 use lib.Dec.{leb}
 use lib.ListN.{length, getD}
-use Rattle.image.specs.Layout.{largest, longest, lengthOf, imageLength}
+use Rattle.image.specs.Layout.{largest, longest, lengthOf}
 use Rattle.image.specs.Frame.{Sized, Framed}
 use Rattle.image.specs.Check.{badCount, badLength, badStall, badYields, badNames, badMarks, checkBody, checked, numberOf}
 use Rattle.image.specs.declared.Checked.{Checked}
 use Rattle.image.specs.declared.Checked.the-variants.{Good, Refused}
+use Rattle.image.proofs.OrderEntry.{order-wide, order-most, length-is}
 
--- the length of an image, by its places
-pub length-is : (n : ℕ) → 2 ≤ n → n ≤ largest → lengthOf n ≡ imageLength n
-length-is n a b = rw (le-leb 2 n a, le-leb n largest b) (omega arith)
-
--- and within which bounds it lies
+-- within which bounds the length of an image lies
 pub length-range : (n : ℕ) → 2 ≤ n → n ≤ largest → (18 ≤ lengthOf n) × (lengthOf n ≤ longest)
-length-range n a b = rw (le-leb 2 n a, le-leb n largest b) (omega (arith, mul-le-mul a a), omega (arith, mul-le-mul b b))
+length-range n a b =
+    let e = length-is n a b in
+    (omega (arith, mul-le-mul a a, mul-le-mul a (order-wide n)), omega (arith, mul-le-mul b b, mul-le-mul b (order-most n b), length-is largest (omega arith) (omega arith)))
 
 -- a range test that did not fail
 pub in-range : (a b x : ℕ) → not (leb a x && leb x b) ≡ false → (a ≤ x) × (x ≤ b)
@@ -40,7 +39,7 @@ pub sized : {s : List ℕ} → not (leb 2 (getD s 0 0) && leb (getD s 0 0) large
 sized {s} e d =
     let n = getD s 0 0 in
     let (a, b) = in-range 2 largest n e in
-    record { n-from = a; n-to = b; long = (rw (le-leb 2 n a, le-leb n largest b) at d) ∙ omega arith }
+    record { n-from = a; n-to = b; long = d ∙ length-is n a b }
 
 -- Which number applies first
 

@@ -49,7 +49,7 @@ badRow s n own r =
 unfoldable pub badNames : List ℕ → ℕ → ℕ → Bool
 badNames s n own = some n (badRow s n own)
 
--- 6, of the order byte of stall r: "a mark that involves a stall never heard, or a stall number above N; a heard stall r without (r, r) or without (r, own)"
+-- 6, of the order entry of stall r: "a mark that involves a stall never heard, or a stall number above N; a heard stall r without (r, r) or without (r, own)"
 unfoldable pub badOrder : List ℕ → ℕ → ℕ → ℕ → Bool
 badOrder s n own r =
     some largest (λ t. markAt s n r t && not (heardAt s n own r && (leb t n && heardAt s n own t)))

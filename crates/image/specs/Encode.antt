@@ -27,13 +27,17 @@ nameBytes (With m) = m .partner ∷ m .label ∷ []
 abbrev pub wordBytes : ℕ → List ℕ
 wordBytes x = x / 256 ∷ x % 256 ∷ []
 
+-- an order entry of n stalls as bytes
+unfoldable pub orderBytes : ℕ → ℕ → List ℕ
+orderBytes n x = x ∷ []
+
 -- the image of a table of n stalls, of the head at stall own
 unfoldable pub encode : ℕ → ℕ → Table → List ℕ
 encode n own t =
     (n ∷ own ∷ wordBytes (t .current))
     ++ each n (λ r. each n (λ c. nameBytes (t .names r c)))
     ++ each n (λ r. wordBytes (t .yields r))
-    ++ each n (λ r. bits n (t .order r) ∷ [])
+    ++ each n (λ r. orderBytes n (bits n (t .order r)))
 
 -- what an image says
 unfoldable pub tableOf : List ℕ → ℕ → Table

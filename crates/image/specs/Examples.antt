@@ -4,14 +4,14 @@ use mathlib.Core.Path.{_≡_, refl}
 use mathlib.Core.List.{List, [], _∷_, _++_, map}
 use lib.ListN.{replicate}
 use Rattle.image.specs.Stalls.{some, each, bits, has}
-use Rattle.image.specs.Layout.{isYield, markAt, nameFrom, nameAt, heardAt}
+use Rattle.image.specs.Layout.{isYield, orderWidth, orderFrom, markAt, nameFrom, nameAt, heardAt}
 use Rattle.image.specs.Check.{badCount, badLength, badYields, badDiagonal, badUnheard, badRow, badNames, badOrder, badMarks, checkBody, checked, numberOf}
-use Rattle.image.specs.Encode.{nothing, encode, tableOf}
+use Rattle.image.specs.Encode.{nothing, orderBytes, encode, tableOf}
 use Rattle.image.specs.Fresh.{freshImage, freshTable}
 
 -- whoever unfolds this unfolds all that an image is made, read and checked with
 unfoldable pub evaluated : Unit {0}
-unfolding some each bits has isYield markAt nameFrom nameAt heardAt nothing encode tableOf freshImage freshTable badCount badLength badYields badDiagonal badUnheard badRow badNames badOrder badMarks checkBody checked
+unfolding some each bits has isYield orderWidth orderFrom orderBytes markAt nameFrom nameAt heardAt nothing encode tableOf freshImage freshTable badCount badLength badYields badDiagonal badUnheard badRow badNames badOrder badMarks checkBody checked
 evaluated = tt
 
 -- "A fresh image is N, its stall, then zeros."

@@ -42,7 +42,15 @@ lengthOf n = cond (isCount n) (2 * n * n + 3 * n + 4) 0
 abbrev pub word : List ℕ → ℕ → ℕ
 word s at = getD s at 0 * 256 + getD s (at + 1) 0
 
--- where the yields and the order bytes start, and where the image ends
+-- the bytes of an order entry in an image of n stalls; proofs/OrderEntry.antt has the laws of this and of what such an entry says
+unfoldable pub orderWidth : ℕ → ℕ
+orderWidth n = 1
+
+-- the number of the order entry that starts at a place: the set of stalls that its stall is marked to
+unfoldable pub orderFrom : List ℕ → ℕ → ℕ → ℕ
+orderFrom s n at = getD s at 0
+
+-- where the yields and the order entries start, and where the image ends
 abbrev pub yieldsPlace : ℕ → ℕ
 yieldsPlace n = 4 + n * (n + n)
 
@@ -50,11 +58,11 @@ abbrev pub ordersPlace : ℕ → ℕ
 ordersPlace n = yieldsPlace n + n * 2
 
 abbrev pub imageLength : ℕ → ℕ
-imageLength n = ordersPlace n + n
+imageLength n = ordersPlace n + n * orderWidth n
 
 -- where they start in an image of this length, counted from its end: so the code needs no product
 abbrev pub ordersFrom : ℕ → ℕ → ℕ
-ordersFrom length n = length - n
+ordersFrom length n = length - n * orderWidth n
 
 abbrev pub yieldsFrom : ℕ → ℕ → ℕ
 yieldsFrom length n = ordersFrom length n - n * 2
@@ -64,9 +72,9 @@ abbrev pub longestRow : ℕ
 longestRow = largest * 2
 
 abbrev pub longest : ℕ
-longest = imageLength largest
+longest = lengthOf largest
 
--- where a row, a name in it, a yield and an order byte start
+-- where a row, a name in it, a yield and an order entry start
 abbrev pub rowPlace : ℕ → ℕ → ℕ
 rowPlace n r = 4 + (r - 1) * (n + n)
 
@@ -77,7 +85,7 @@ abbrev pub yieldPlace : ℕ → ℕ → ℕ
 yieldPlace n r = yieldsPlace n + (r - 1) * 2
 
 abbrev pub orderPlace : ℕ → ℕ → ℕ
-orderPlace n r = ordersPlace n + (r - 1)
+orderPlace n r = ordersPlace n + (r - 1) * orderWidth n
 
 -- what stands there
 abbrev pub currentAt : List ℕ → ℕ
@@ -93,7 +101,7 @@ abbrev pub yieldAt : List ℕ → ℕ → ℕ → ℕ
 yieldAt s n r = word s (yieldPlace n r)
 
 abbrev pub orderAt : List ℕ → ℕ → ℕ → ℕ
-orderAt s n r = getD s (orderPlace n r) 0
+orderAt s n r = orderFrom s n (orderPlace n r)
 
 -- order mark (r, t)
 unfoldable pub markAt : List ℕ → ℕ → ℕ → ℕ → Bool

@@ -4,11 +4,12 @@ ghost use Prim.Native.Nat.{_+_, _-_, _*_, _<_, _≤_};
 ghost use mathlib.Core.Bool.{not};
 ghost use lib.ListN.{length};
 ghost use Rattle.image.specs.Stalls.{some};
-ghost use Rattle.image.specs.Layout.{isCount, isYield, ordersFrom, rowPlace, word, yieldsFrom};
+ghost use Rattle.image.specs.Layout.{isCount, isYield, rowPlace, word, yieldsFrom};
 ghost use Rattle.image.specs.Frame.{Framed};
 ghost use Rattle.image.specs.Check.{badStall, badYields};
 use crate::Head;
 use crate::LARGEST;
+use crate::orders::orders_place;
 
 pub fn wide(b: u8) -> usize
     ensures { λ r. ⌜ (r ≡ b) × (r < 256) ⌝ }
@@ -62,20 +63,13 @@ pub fn row_place(n: u8, r: u8) -> usize
 }
 
 // x less y, 0 where y is larger.
-fn less(x: usize, y: usize) -> usize
+pub(crate) fn less(x: usize, y: usize) -> usize
     ensures { λ r. ⌜ r ≡ x - y ⌝ }
 {
     if x < y { 0 } else { x - y }
 }
 
-// Where the order bytes of an image of n stalls start, counted from its end.
-pub fn orders_place(length: usize, n: usize) -> usize
-    ensures { λ r. ⌜ r ≡ ordersFrom length n ⌝ }
-{
-    less(length, n)
-}
-
-// Where its yields start.
+// Where the yields of an image of n stalls start, counted from its end.
 pub fn yields_place(length: usize, n: usize) -> usize
     ensures { λ r. ⌜ r ≡ yieldsFrom length n ⌝ }
 {

@@ -8,6 +8,7 @@ ghost use Rattle.image.specs.Check.{checkBody, checked, numberOf};
 pub mod bytes;
 pub mod marks;
 mod names;
+pub mod orders;
 pub mod rows;
 
 // The most heads that a parlour has, the bytes of a row of names of so many, and of their image.

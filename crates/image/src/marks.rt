@@ -9,9 +9,11 @@ ghost use Rattle.image.specs.Stalls.{bits, bitOf};
 ghost use Rattle.image.specs.Layout.{largest, rowPlace};
 ghost use Rattle.image.specs.Frame.{Framed};
 ghost use Rattle.image.specs.Check.{badMarks};
-use crate::bytes::orders_place;
 use crate::bytes::row_place;
 use crate::bytes::wide;
+use crate::orders::order_at;
+use crate::orders::order_width;
+use crate::orders::orders_place;
 
 // x, or nothing.
 pub fn pick(b: bool, x: u64) -> u64
@@ -44,7 +46,7 @@ pub(crate) fn heard_set(image: &[u8], n: usize, at: usize) -> u64
     set
 }
 
-// The order byte b of a stall is bad, by whether the stall is heard, which stalls are, its bit and the own stall's.
+// The order entry b of a stall is bad, by whether the stall is heard, which stalls are, its bit and the own stall's.
 fn bad_order(b: u64, heard: bool, set: u64, one: u64, own: u64) -> bool
     ensures { λ r.
         ⌜ r
@@ -67,7 +69,7 @@ pub fn bit_of(s: u8) -> u64
     1u64 << (s - 1)
 }
 
-// Some order byte is bad.
+// Some order entry is bad.
 fn bad_orders(image: &[u8], n: usize, own: usize, ownrow: usize, ownbit: u64) -> bool
     requires { ⌜ Framed (now image) n own × (ownrow ≡ rowPlace n own) × (ownbit ≡ 2 ^ (own - 1)) ⌝ }
     ensures { λ b. ⌜ b ≡ badMarks (now (image .entry)) n own ⌝ }
@@ -75,13 +77,21 @@ fn bad_orders(image: &[u8], n: usize, own: usize, ownrow: usize, ownbit: u64) ->
     let set = heard_set(image, n, ownrow);
     let mut bad = false;
     let mut one = 1u64;
+    let width = order_width(n);
     let mut at = orders_place(image.len(), n);
     let mut place = ownrow;
     let mut r = 1usize;
     while r <= n {
-        bad = bad_order(widen(image[at]), !(image[place] == 0), set, one, ownbit) | bad;
+        bad = bad_order(
+            order_at(image, n, at),
+            !(image[place] == 0),
+            set,
+            one,
+            ownbit,
+        )
+            | bad;
         one += one;
-        at += 1;
+        at += width;
         place += 2;
         r += 1;
     }

@@ -9,7 +9,7 @@ use lib.ListN.{length, getD, take, drop}
 use lib.Seq.{take-suc, take-all}
 use Rattle.image.specs.Stalls.{each, bits, has}
 use Rattle.image.specs.Layout.{rowPlace, namePlace, yieldPlace, largest}
-use Rattle.image.specs.Encode.{Table, nameBytes, wordBytes, encode, tableOf}
+use Rattle.image.specs.Encode.{Table, nameBytes, wordBytes, orderBytes, encode, tableOf}
 use Rattle.image.specs.declared.Name.{Name}
 use Rattle.image.specs.declared.Name.the-variants.{Never, With}
 use Rattle.image.proofs.Has.{Has, has-part, has-first, each-has, length-each}
@@ -25,7 +25,7 @@ use Rattle.merge.specs.Orders.{Ordered}
 use Rattle.merge.specs.ByStall.{ByStall}
 use Rattle.merge.specs.Views.{Decides}
 use Rattle.merge.specs.declared.Decided.{Decided}
-use Rattle.merge.specs.Body.{pairAt, latestPair, bodyRow, bodyYield}
+use Rattle.merge.specs.Body.{pairAt, latestPair, bodyRow, bodyYield, orderIn}
 use Rattle.merge.proofs.PairRows.{each-agree}
 use Rattle.merge.proofs.Judging.{firstKnown, secondKnown, same}
 
@@ -38,9 +38,9 @@ take-each (suc n) l f a g =
     take-suc l n 0 a
     ∙ ap₂ (λ x y. x ++ y ∷ []) (take-each n l f (omega arith) (λ r b c. g r b (omega arith))) (ap (λ j. getD l j 0) i ∙ g (suc n) (omega arith) (omega arith))
 
-pub orders-in : (s u : List ℕ) (n p q : ℕ) (out : List ℕ) → n ≤ largest → Ordered s u n p q n out
-    → take n out ≡ each n (λ r. bits n (mergedOrder n p (tableOf s n) q (tableOf u n) r) ∷ [])
-orders-in s u n p q out l w = take-each n out (λ r. bits n (mergedOrder n p (tableOf s n) q (tableOf u n) r)) (omega (arith, w .long)) (w .right)
+pub orders-in : (s u : List ℕ) (n p q : ℕ) (out : List ℕ) → Ordered s u n p q n out
+    → each n (orderIn out n) ≡ each n (λ r. orderBytes n (bits n (mergedOrder n p (tableOf s n) q (tableOf u n) r)))
+orders-in s u n p q out w = each-agree n _ _ (λ r i j. ap (orderBytes n) (w .right r i j))
 
 -- the verdict of a stall that is not undecided, by its tests
 verdict-byte : (x y s : Bool) → eqb (judge x y s) 9 ≡ false → cond (eqb (judge x y s) 1) 1 (cond (eqb (judge x y s) 2) 2 0) ≡ judge x y s
@@ -145,18 +145,18 @@ module _ (s u : List ℕ) (n p q : ℕ) (a : Accepted s n p) (b : Accepted u n q
 
   -- both images hold the same behind their starts
   body-means : (start : List ℕ) (own current : ℕ) → start ≡ n ∷ own ∷ wordBytes current
-      → start ++ each n (bodyRow s u n p q k t) ++ each n (bodyYield s u n p q t) ++ each n (λ r. bits n (mergedOrder n p first q second r) ∷ [])
+      → start ++ each n (bodyRow s u n p q k t) ++ each n (bodyYield s u n p q t) ++ each n (λ r. orderBytes n (bits n (mergedOrder n p first q second r)))
       ≡ encode n own (merged n p first q second current)
   unfolding encode merged
   body-means start own current e =
-      ap (λ l. l ++ each n (λ r. bits n (mergedOrder n p first q second r) ∷ []))
+      ap (λ l. l ++ each n (λ r. orderBytes n (bits n (mergedOrder n p first q second r))))
       (ap₂ _++_ (ap₂ _++_ e (each-agree n (bodyRow s u n p q k t) (λ r. each n (λ c. nameBytes (mergedNames n p first q second r c))) row-means))
       (each-agree n (bodyYield s u n p q t) (λ r. wordBytes (mergedYields n p first q second r)) yield-means))
 
-  pub first-after : take 4 s ++ each n (bodyRow s u n p q k t) ++ each n (bodyYield s u n p q t) ++ each n (λ r. bits n (mergedOrder n p (tableOf s n) q (tableOf u n) r) ∷ [])
+  pub first-after : take 4 s ++ each n (bodyRow s u n p q k t) ++ each n (bodyYield s u n p q t) ++ each n (λ r. orderBytes n (bits n (mergedOrder n p (tableOf s n) q (tableOf u n) r)))
       ≡ encode n p (merged n p (tableOf s n) q (tableOf u n) (tableOf s n .current))
   first-after = body-means (take 4 s) p (first .current) (start-part s n p a s-bytes)
 
-  pub second-after : take 4 u ++ each n (bodyRow s u n p q k t) ++ each n (bodyYield s u n p q t) ++ each n (λ r. bits n (mergedOrder n p (tableOf s n) q (tableOf u n) r) ∷ [])
+  pub second-after : take 4 u ++ each n (bodyRow s u n p q k t) ++ each n (bodyYield s u n p q t) ++ each n (λ r. orderBytes n (bits n (mergedOrder n p (tableOf s n) q (tableOf u n) r)))
       ≡ encode n q (merged n p (tableOf s n) q (tableOf u n) (tableOf u n .current))
   second-after = body-means (take 4 u) q (second .current) (start-part u n q b u-bytes)

@@ -1,12 +1,12 @@
--- The rows and yields by value, and the image that they and the order bytes are written into.
+-- The rows and yields by value, and the image that they and the order entries are written into.
 use Prim.Native.Nat.{ℕ, _+_, _-_, _*_, _≤_}
 use mathlib.Core.Path.{_≡_, refl, sym, ap, ap₂, _∙_}
 use mathlib.Core.Bool.{Bool, _||_}
-use mathlib.Core.List.{List, [], _∷_, _++_, append-nil}
+use mathlib.Core.List.{List, [], _∷_, _++_}
 use native.Mathlib.Omega.{arith}
 use lib.Dec.{eqb}
 use lib.ListN.{length, getD, take, drop, replicate, length-append, length-drop}
-use lib.Seq.{length-take-le, take-at, drop-append-add, drop-drop, drop-length}
+use lib.Seq.{length-take-le, take-at, drop-append-add}
 use Rattle.image.specs.Stalls.{each}
 use Rattle.image.specs.Layout.{rowPlace, yieldPlace, imageLength, ordersPlace, yieldsPlace, longestRow}
 use Rattle.image.specs.Frame.{Sized, Framed}
@@ -67,7 +67,7 @@ paste-behind front rest l x k w e g =
     let h : drop (k + w) l ≡ drop w rest = ap₂ (λ j m. drop (j + w) m) (sym e) g ∙ drop-append-add front rest w in
     rw (f, h)
 
--- rows, yields and order bytes by value, written into d one after the other: x has the rows, y the yields too, z all
+-- rows, yields and order entries by value, written into d one after the other: x has the rows, y the yields too, z all
 module _ (d x y : List ℕ) (n : ℕ) (rows : List (List ℕ)) (yields : List ℕ) (sized : Sized d n)
     (long : (r : ℕ) → 1 ≤ r → r ≤ n → length (getD rows (r - 1) []) ≡ longestRow) (yields-long : length yields ≡ longestRow)
     (x-is : x ≡ take 4 d ++ each n (rowIn rows n) ++ drop (yieldsPlace n) d)
@@ -87,14 +87,9 @@ module _ (d x y : List ℕ) (n : ℕ) (rows : List (List ℕ)) (yields : List �
   length-to-orders =
       length-append to-yields (take (n * 2) yields) ∙ omega (arith, length-to-yields, length-take-le (n * 2) yields (omega (arith, sized .n-to)))
 
-  pub body-written : (z : List ℕ) (at : ℕ) (orders : List ℕ) → at ≡ ordersPlace n → z ≡ take at y ++ take n orders ++ drop (at + n) y
-      → z ≡ to-orders ++ take n orders
-  body-written z at orders e z-is =
+  pub body-written : (z orders : List ℕ) → z ≡ take (ordersPlace n) y ++ orders → z ≡ to-orders ++ orders
+  body-written z orders z-is =
       let k = yieldsPlace n in
       let rest = drop (n * 2) (drop k d) in
       let f : y ≡ to-orders ++ rest = y-is ∙ paste-behind to-yields (drop k d) x (take (n * 2) yields) k (n * 2) length-to-yields x-is in
-      let g : drop n rest ≡ [] = ap (drop n) (drop-drop (n * 2) k d) ∙ drop-drop n (k + n * 2) d ∙ ap (λ j. drop j d) (sym (sized .long)) ∙ drop-length d in
-      z-is
-      ∙ paste-behind to-orders rest y (take n orders) at n (length-to-orders ∙ sym e) f
-      ∙ ap (λ r. to-orders ++ take n orders ++ r) g
-      ∙ append-nil _
+      z-is ∙ ap (λ t. t ++ orders) (ap (take (ordersPlace n)) f ∙ take-at to-orders rest (ordersPlace n) length-to-orders)

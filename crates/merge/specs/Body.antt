@@ -6,7 +6,7 @@ use mathlib.Core.List.{List, [], _∷_, _++_}
 use lib.Dec.{eqb}
 use lib.ListN.{getD, take, drop, replicate}
 use Rattle.image.specs.Stalls.{each, bits}
-use Rattle.image.specs.Encode.{tableOf}
+use Rattle.image.specs.Encode.{orderBytes, tableOf}
 use Rattle.image.specs.Layout.{rowPlace, yieldPlace, longestRow}
 use Rattle.merge.specs.Merged.{mergedOrder}
 use Rattle.merge.specs.declared.pairs.Pair.{Pair}
@@ -48,6 +48,10 @@ padded n l = l ++ replicate (longestRow - n * 2) 0
 abbrev pub rowIn : List (List ℕ) → ℕ → ℕ → List ℕ
 rowIn rows n r = take (n * 2) (getD rows (r - 1) [])
 
+-- the bytes of the order entry of stall r in an array of them by value
+abbrev pub orderIn : List ℕ → ℕ → ℕ → List ℕ
+orderIn orders n r = orderBytes n (getD orders (r - 1) 0)
+
 abbrev pub pairBytes : Pair → List ℕ
 pairBytes x = x .high ∷ x .low ∷ []
 
@@ -58,10 +62,10 @@ mixedPair s a u b t c =
     (cond (eqb c (b .stall)) (pairBytes (b .own))
     (cond (t c) (pairAt u (b .at + (c - 1) * 2)) (pairAt s (a .at + (c - 1) * 2))))
 
--- d, the image of a head that met, with rows, yields and order bytes as the meeting leaves them
+-- d, the image of a head that met, with rows, yields and order entries as the meeting leaves them
 abbrev pub imageAfter : List ℕ → List ℕ → List ℕ → ℕ → ℕ → ℕ → ℕ → (ℕ → Bool) → List ℕ
 imageAfter d s u n p q k t =
     take 4 d
     ++ each n (bodyRow s u n p q k t)
     ++ each n (bodyYield s u n p q t)
-    ++ each n (λ r. bits n (mergedOrder n p (tableOf s n) q (tableOf u n) r) ∷ [])
+    ++ each n (λ r. orderBytes n (bits n (mergedOrder n p (tableOf s n) q (tableOf u n) r)))

@@ -5,7 +5,7 @@ use mathlib.Core.Bool.{_&&_, not, cond}
 use mathlib.Core.List.{List}
 use lib.Bits.{bitAnd, bitOr}
 use lib.Dec.{eqb}
-use Rattle.image.specs.Layout.{longestRow}
+use Rattle.image.specs.Layout.{largest}
 use Rattle.image.specs.Stalls.{bits, has}
 use Rattle.image.specs.Encode.{Table, tableOf}
 use Rattle.image.specs.Row.{isNever}
@@ -45,6 +45,6 @@ orderOf x r mine theirs =
     bitOr (cond (has (x .heard) r) (x .pair) 0)
     (bitOr (bitAnd (cond (has (x .first) r) (x .first) 0) mine) (bitAnd (sourceOf x r) theirs))
 
--- the order bytes of the first m stalls after images s and u met
+-- the order entries of the first m stalls, as numbers, after images s and u met
 abbrev pub Ordered : List ℕ → List ℕ → ℕ → ℕ → ℕ → ℕ → List ℕ → Type 0
-Ordered s u n p q m = ByStall 0 longestRow m (λ r. bits n (mergedOrder n p (tableOf s n) q (tableOf u n) r))
+Ordered s u n p q m = ByStall 0 largest m (λ r. bits n (mergedOrder n p (tableOf s n) q (tableOf u n) r))

@@ -18,12 +18,13 @@ use crate::Seen;
 use crate::View;
 use image::Entry;
 use image::Name;
-use image::bytes::orders_place;
 use image::bytes::row_place;
 use image::bytes::wide;
 use image::marks::bit_of;
 use image::marks::pick;
-use image::marks::widen;
+use image::orders::order_at;
+use image::orders::order_width;
+use image::orders::orders_place;
 
 // The partner of a name, 0 where there is none.
 fn partner_of(x: Name) -> u8
@@ -128,12 +129,13 @@ fn marked(image: &[u8], n: usize, set: u64) -> u64
 {
     let mut out = 0u64;
     let mut one = 1u64;
+    let width = order_width(n);
     let mut at = orders_place(image.len(), n);
     let mut r = 1usize;
     while r <= n {
-        out += pick(!((widen(image[at]) & set) == 0), one);
+        out += pick(!((order_at(image, n, at) & set) == 0), one);
         one += one;
-        at += 1;
+        at += width;
         r += 1;
     }
     out

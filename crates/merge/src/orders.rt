@@ -1,7 +1,7 @@
 // The order marks that both heads hold after a meeting. Sets of stalls are numbers.
 ghost use mathlib.Core.Path.{_≡_};
 ghost use Prim.Native.Nat.{suc, _%_, _≤_, _<_};
-ghost use Rattle.image.specs.Layout.{largest, longestRow, orderAt};
+ghost use Rattle.image.specs.Layout.{largest, orderAt};
 ghost use Rattle.image.specs.Encode.{tableOf};
 ghost use Rattle.image.specs.Frame.{Sized, Framed};
 ghost use Rattle.merge.specs.ByStall.{ByStall};
@@ -13,12 +13,13 @@ use crate::Sets;
 use crate::known::all_stalls;
 use crate::known::without;
 use crate::pairs::has_stall;
-use image::ROW;
-use image::bytes::orders_place;
+use image::STALLS;
 use image::bytes::wide;
 use image::marks::bit_of;
 use image::marks::pick;
-use image::marks::widen;
+use image::orders::order_at;
+use image::orders::order_width;
+use image::orders::orders_place;
 
 // The stalls by who has them.
 fn sorted(x: Parties, d: Decided) -> Sets
@@ -58,23 +59,24 @@ fn order_of(x: Sets, r: usize, mine: u64, theirs: u64) -> u64
 }
 
 // The order marks of n stalls after a meeting.
-fn merged_orders(first: &[u8], second: &[u8], n: usize, x: Sets) -> [u8; ROW]
+fn merged_orders(first: &[u8], second: &[u8], n: usize, x: Sets) -> [u16; STALLS]
     requires { ⌜ Sized (now first) n × Sized (now second) n ⌝ }
-    ensures { λ o. ⌜ ByStall 0 longestRow n (λ r. orderOf x r (orderAt (now (first .entry)) n r) (orderAt (now (second .entry)) n r) % 256) o ⌝ }
+    ensures { λ o. ⌜ ByStall 0 largest n (λ r. orderOf x r (orderAt (now (first .entry)) n r) (orderAt (now (second .entry)) n r) % 65536) o ⌝ }
 {
-    let mut out = [0u8; ROW];
+    let mut out = [0u16; STALLS];
+    let width = order_width(n);
     let mut at = orders_place(first.len(), n);
     let mut r = 0usize;
     while r < n {
-        out[r] = (order_of(x, r, widen(first[at]), widen(second[at])) % 256) as u8;
-        at += 1;
+        out[r] = (order_of(x, r, order_at(first, n, at), order_at(second, n, at)) % 65536) as u16;
+        at += width;
         r += 1;
     }
     out
 }
 
 // The order marks after a meeting with these verdicts.
-pub(crate) fn orders_after(first: &[u8], second: &[u8], x: Parties, d: Decided) -> [u8; ROW]
+pub(crate) fn orders_after(first: &[u8], second: &[u8], x: Parties, d: Decided) -> [u16; STALLS]
     requires { ⌜ Framed (now first) (x .n) (x .p) × Framed (now second) (x .n) (x .q) ⌝ }
     requires { ⌜ Decides (x .n) (x .p) (tableOf (now first) (x .n)) (x .q) (tableOf (now second) (x .n)) d ⌝ }
     ensures { λ r. ⌜ Ordered (now (first .entry)) (now (second .entry)) (x .n) (x .p) (x .q) (x .n) r ⌝ }

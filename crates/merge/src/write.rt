@@ -1,16 +1,18 @@
-// Rows, yields and order bytes written into an image.
+// Rows, yields and order entries written into an image.
 ghost use mathlib.Core.Path.{_≡_};
-ghost use Prim.Native.Nat.{ℕ, _+_, _-_, _*_, _≤_};
+ghost use Prim.Native.Nat.{ℕ, _+_, _-_, _*_, _^_, _<_, _≤_};
 ghost use mathlib.Core.List.{[], _++_};
 ghost use lib.ListN.{length, take, drop, getD};
 ghost use Rattle.image.specs.Layout.{ordersPlace, yieldsPlace, largest, longestRow};
 ghost use Rattle.image.specs.Frame.{Sized};
 ghost use Rattle.image.specs.Stalls.{each};
-ghost use Rattle.merge.specs.Body.{rowIn};
+ghost use Rattle.merge.specs.Body.{orderIn, rowIn};
 use image::ROW;
 use image::STALLS;
-use image::bytes::orders_place;
 use image::bytes::yields_place;
+use image::orders::order_width;
+use image::orders::orders_place;
+use image::orders::put_order;
 
 // What another image of the same length holds behind its first four bytes.
 pub(crate) fn copy_body(image: &mut [u8], from: &[u8])
@@ -65,21 +67,35 @@ pub(crate) fn write_yields(image: &mut [u8], n: usize, yields: [u8; ROW])
     write_at(image, at, n + n, yields);
 }
 
-// The rows, yields and order bytes of n stalls.
+// The order entries of n stalls.
+pub(crate) fn write_orders(image: &mut [u8], n: usize, orders: [u16; STALLS])
+    requires { ⌜ Sized (now image) n × (length orders ≡ largest) × ((r : ℕ) → 1 ≤ r → r ≤ n → getD orders (r - 1) 0 < 2 ^ n) ⌝ }
+    ensures { λ r. ⌜ now (image .exit) ≡ take (ordersPlace n) (now (image .entry)) ++ each n (orderIn orders n) ⌝ }
+{
+    let width = order_width(n);
+    let mut at = orders_place(image.len(), n);
+    let mut c = 0usize;
+    while c < n {
+        put_order(image, n, at, orders[c]);
+        at += width;
+        c += 1;
+    }
+}
+
+// The rows, yields and order entries of n stalls.
 pub(crate) fn write_body(
     image: &mut [u8],
     n: usize,
     rows: [[u8; ROW]; STALLS],
     yields: [u8; ROW],
-    orders: [u8; ROW],
+    orders: [u16; STALLS],
 )
     requires { ⌜ Sized (now image) n × (length rows ≡ largest) × ((r : ℕ) → 1 ≤ r → r ≤ n → length (getD rows (r - 1) []) ≡ longestRow) ⌝ }
-    requires { ⌜ (length yields ≡ longestRow) × (length orders ≡ longestRow) ⌝ }
+    requires { ⌜ (length yields ≡ longestRow) × (length orders ≡ largest) × ((r : ℕ) → 1 ≤ r → r ≤ n → getD orders (r - 1) 0 < 2 ^ n) ⌝ }
     ensures { λ r.
-        ⌜ now (image .exit) ≡ take 4 (now (image .entry)) ++ each n (rowIn rows n) ++ take (n * 2) yields ++ take n orders ⌝ }
+        ⌜ now (image .exit) ≡ take 4 (now (image .entry)) ++ each n (rowIn rows n) ++ take (n * 2) yields ++ each n (orderIn orders n) ⌝ }
 {
     write_rows(image, n, rows);
     write_yields(image, n, yields);
-    let at = orders_place(image.len(), n);
-    write_at(image, at, n, orders);
+    write_orders(image, n, orders);
 }

@@ -4,12 +4,13 @@ use mathlib.Core.Path.{_≡_, refl, sym, ap, subst, _∙_}
 use mathlib.Core.Bool.{cond}
 use mathlib.Core.List.{List, []}
 use native.Mathlib.Omega.{arith}
-use borrow.Author.Tests.{eq-eqb, ne-eqb, le-leb}
+use borrow.Author.Tests.{eq-eqb, ne-eqb}
 use lib.Dec.{eqb}
 use lib.ListN.{length, replicate}
 use Rattle.image.specs.Layout.{largest, lengthOf, longest}
 use Rattle.image.proofs.Accepted.{Accepted}
 use Rattle.image.proofs.Has.{length-each}
+use Rattle.image.proofs.OrderEntry.{length-is}
 use Rattle.line.specs.Parlour.{stateLength, headsOf, imageOf, withImage, freshSlot, freshState}
 use Rattle.line.specs.Asked.{StallOf}
 use Rattle.line.proofs.Slots.{length-slot}
@@ -39,7 +40,7 @@ kept-agree {n} w e =
 
 -- an image of a parlour has the length for its number of heads
 pub kept-long : {n : ℕ} {l : List Item} {images : Images} → Kept n l images → (p : ℕ) → StallOf n p → length (images p) ≡ lengthOf n
-kept-long {n} w p r = rw (le-leb 2 n (w .n-from), le-leb n largest (w .n-to)) (omega (arith, w .good p (r .from) (r .to) .frame .long))
+kept-long {n} w p r = w .good p (r .from) (r .to) .frame .long ∙ sym (length-is n (w .n-from) (w .n-to))
 
 pub put-own : (images : Images) (r : ℕ) (x : List ℕ) → put images r x r ≡ x
 unfolding put

@@ -1,4 +1,4 @@
--- The order byte of a stall is bad.
+-- The order entry of a stall is bad.
 use Rattle.image.proofs.marks.bad_order.Statement.{statement}
 use Rattle.image.proofs.marks.bad_order.Tie as tie
 

@@ -1,7 +1,5 @@
--- The rows, yields and order bytes of n stalls.
+-- The rows, yields and order entries of n stalls.
 use borrow.Author.Needs.{needs}
-use Prim.Native.Nat.{_-_}
-use native.Mathlib.Omega.{arith}
 use Rattle.merge.proofs.BodyWritten.{body-written}
 use Rattle.merge.proofs.write.write_body.Statement.{statement}
 use Rattle.merge.proofs.write.write_body.Tie as tie
@@ -13,6 +11,11 @@ write-body-spec =
     (λ c κs. search needs)
     (λ c κs. search needs)
     (λ c κs. search needs)
-    (λ c κs. search needs)
     (λ c. search needs)
-    (λ c. body-written (c .before .before .before .before .before .before .before .before .before .before .before .before .before .before .args .image .now) (c .before .before .before .before .before .before .before .before .before .before .before .write-rows .last .0) (c .before .before .before .before .before .before .before .write-yields .last .0) (c .before .before .before .before .before .before .before .before .before .before .before .before .before .before .args .n) (c .before .before .before .before .before .before .before .before .before .before .before .before .before .before .args .rows) (c .before .before .before .before .before .before .before .before .before .before .before .before .before .before .args .yields) (c .before .before .before .before .before .before .before .before .before .before .before .before .before .before .pre .0 .0) (c .before .before .before .before .before .before .before .before .before .before .before .before .before .before .pre .0 .2) (c .before .before .before .before .before .before .before .before .before .before .before .before .before .before .pre .1 .0) (c .before .before .before .before .before .before .before .before .before .before .before .write-rows .ensures) (c .before .before .before .before .before .before .before .write-yields .ensures) (c .before .before .write-at .last .0) (c .before .before .before .before .orders-place .result) (c .before .before .before .before .before .before .before .before .before .before .before .before .before .before .args .orders) (omega (arith, c .before .before .before .before .orders-place .ensures, c .before .before .before .before .before .before .before .before .before .before .before .before .before .before .pre .0 .0 .long)) (c .before .before .write-at .ensures)))
+    (λ c.
+    let start = c .before .before .before .before .before .before .before .before .before .before .before .before .before in
+    let a = start .args in
+    let rows = c .before .before .before .before .before .before .before .before .before .before .write-rows in
+    let yields = c .before .before .before .before .before .before .write-yields in
+    let orders = c .before .before .write-orders in
+    body-written (a .image .now) (rows .last .0) (yields .last .0) (a .n) (a .rows) (a .yields) (start .pre .0 .0) (start .pre .0 .2) (start .pre .1 .0) (rows .ensures) (yields .ensures) (orders .last .0) _ (orders .ensures)))

@@ -1,0 +1,72 @@
+-- An order entry: how many bytes it has, what they say, and where it stands. All that depends on its width is here, and in src/orders.rt and its proofs.
+use Prim.Native.Nat.{ℕ, _+_, _-_, _^_, _≤_, _<_}
+use mathlib.Core.Path.{_≡_, refl, ap}
+use mathlib.Core.List.{List}
+use native.Mathlib.Omega.{arith}
+use native.Mathlib.Nat.{mul-le-mul-right}
+use borrow.Author.Tests.{le-leb}
+use lib.ListN.{length, getD, replicate}
+use Rattle.image.specs.Layout.{largest, lengthOf, orderWidth, orderFrom, orderPlace, imageLength}
+use Rattle.image.specs.Encode.{orderBytes}
+use Rattle.image.proofs.Search.{times-step}
+use Rattle.image.proofs.Has.{Has, has-first, has-one}
+
+-- Its width
+
+pub order-wide : (n : ℕ) → 1 ≤ orderWidth n
+unfolding orderWidth
+order-wide n = omega arith
+
+-- at most that of the largest parlour
+pub order-most : (n : ℕ) → n ≤ largest → orderWidth n ≤ orderWidth largest
+unfolding orderWidth
+order-most n l = omega arith
+
+pub length-order : (n x : ℕ) → length (orderBytes n x) ≡ orderWidth n
+unfolding orderWidth orderBytes
+length-order n x = refl
+
+-- the length of an image, by its places
+pub length-is : (n : ℕ) → 2 ≤ n → n ≤ largest → lengthOf n ≡ imageLength n
+unfolding orderWidth
+length-is n a b = rw (le-leb 2 n a, le-leb n largest b) (omega arith)
+
+-- What its bytes say
+
+pub order-back : {s : List ℕ} {at : ℕ} (n x : ℕ) → Has s at (orderBytes n x) → orderFrom s n at ≡ x
+unfolding orderBytes orderFrom
+order-back n x h = has-first h (omega arith)
+
+pub order-bound : (s : List ℕ) (n at : ℕ) → ((k : ℕ) → getD s k 0 < 256) → orderFrom s n at < 2 ^ largest
+unfolding orderFrom
+order-bound s n at bytes = bytes at
+
+-- and they are those of the number that they say
+pub order-has : (s : List ℕ) (n at : ℕ) → at + orderWidth n ≤ length s → ((k : ℕ) → getD s k 0 < 256) → Has s at (orderBytes n (orderFrom s n at))
+unfolding orderWidth orderFrom orderBytes
+order-has s n at l bytes = has-one _ (omega arith) refl
+
+-- the entry of a stall with no marks is zeros
+pub order-zeros : (n : ℕ) → replicate (orderWidth n) 0 ≡ orderBytes n 0
+unfolding orderWidth orderBytes
+order-zeros n = refl
+
+-- only the bytes from its place on count
+pub entry-same : (s u : List ℕ) (n at : ℕ) → ((k : ℕ) → at ≤ k → getD u k 0 ≡ getD s k 0) → orderFrom u n at ≡ orderFrom s n at
+unfolding orderFrom
+entry-same s u n at same = same at (omega arith)
+
+-- Where it stands
+
+pub order-next : (n r : ℕ) → 1 ≤ r → orderPlace n (r + 1) ≡ orderPlace n r + orderWidth n
+order-next n r l = let a : r + 1 - 1 ≡ r = omega arith in rw a (omega (arith, times-step r (orderWidth n) l))
+
+pub order-within : {n r : ℕ} → 1 ≤ r → r ≤ n → orderPlace n r + orderWidth n ≤ imageLength n
+order-within {n} {r} a b = omega (arith, times-step r (orderWidth n) a, mul-le-mul-right (orderWidth n) b)
+
+-- the entry behind r others, where the code has m for n
+pub entry-within : (n m r : ℕ) {long at : ℕ} → long ≡ imageLength n → m ≡ n → at ≡ orderPlace n (r + 1) → r < m → at + orderWidth m ≤ long
+entry-within n m r e i a l = omega (arith, ap orderWidth i, order-within {n = n} {r = r + 1} (omega arith) (omega arith))
+
+pub entry-next : (n m r : ℕ) {width at : ℕ} → m ≡ n → width ≡ orderWidth m → at ≡ orderPlace n (r + 1) → at + width ≡ orderPlace n (r + 1 + 1)
+entry-next n m r i w a = omega (arith, ap orderWidth i, order-next n (r + 1) (omega arith))

@@ -1,0 +1,39 @@
+// Order entries of an image, read and written at their places: only here does the code know how many bytes an entry has.
+ghost use mathlib.Core.Path.{_≡_};
+ghost use Prim.Native.Nat.{_+_, _^_, _<_, _≤_};
+ghost use mathlib.Core.List.{_++_};
+ghost use lib.ListN.{length, take, drop};
+ghost use Rattle.image.specs.Layout.{largest, orderFrom, orderWidth, ordersFrom};
+ghost use Rattle.image.specs.Encode.{orderBytes};
+use crate::bytes::less;
+use crate::marks::widen;
+
+// The bytes of an order entry in an image of n stalls.
+pub fn order_width(n: usize) -> usize
+    ensures { λ r. ⌜ r ≡ orderWidth n ⌝ }
+{
+    1
+}
+
+// Where the order entries of an image of n stalls start, counted from its end: n less for each byte of an entry, with no product.
+pub fn orders_place(length: usize, n: usize) -> usize
+    ensures { λ r. ⌜ r ≡ ordersFrom length n ⌝ }
+{
+    less(length, n)
+}
+
+// The order entry at a place as a number.
+pub fn order_at(image: &[u8], n: usize, at: usize) -> u64
+    requires { ⌜ at + orderWidth n ≤ length (now image) ⌝ }
+    ensures { λ r. ⌜ (r ≡ orderFrom (now (image .entry)) n at) × (r < 2 ^ largest) ⌝ }
+{
+    widen(image[at])
+}
+
+// An order entry written at a place.
+pub fn put_order(image: &mut [u8], n: usize, at: usize, order: u16)
+    requires { ⌜ (at + orderWidth n ≤ length (now image)) × (n ≤ largest) × (order < 2 ^ n) ⌝ }
+    ensures { λ r. ⌜ now (image .exit) ≡ take at (now (image .entry)) ++ orderBytes n order ++ drop (at + orderWidth n) (now (image .entry)) ⌝ }
+{
+    image[at] = order as u8;
+}
