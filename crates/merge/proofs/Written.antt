@@ -13,6 +13,7 @@ use Rattle.image.specs.Frame.{Sized}
 use Rattle.image.specs.Encode.{orderBytes}
 use Rattle.image.proofs.Has.{length-each}
 use Rattle.image.proofs.OrderEntry.{length-order, entry-within}
+use Rattle.image.proofs.Places.{yields-from}
 use Rattle.merge.specs.Body.{orderIn, rowIn}
 
 -- the first k blocks have one width
@@ -90,10 +91,11 @@ module _ (d : List ℕ) (n : ℕ) (rows : List (List ℕ)) (sized : Sized d n) (
       pasted-next d x (getD rows c []) y 4 (n + n) c at (rowIn rows n) (length-each-to (n + n) (rowIn rows n) c row-wide) row-fits
       (omega (arith, row-long, sized .n-to)) the-row stands
 
--- order entries by value, written one after the other
+-- an order entry by value fits its bytes
 pub order-small : (n : ℕ) (orders : List ℕ) (c : ℕ) → ((r : ℕ) → 1 ≤ r → r ≤ n → getD orders (r - 1) 0 < 2 ^ n) → c < n → getD orders c 0 < 2 ^ n
 order-small n orders c small l = let e : suc c - 1 ≡ c = omega arith in rw e at (small (suc c) (omega arith) l)
 
+-- order entries by value, written one after the other
 module _ (d : List ℕ) (n : ℕ) (orders : List ℕ) (sized : Sized d n) (c at : ℕ) (l : c < n) (stands : at ≡ orderPlace n (c + 1)) where
   abbrev entry : List ℕ
   entry = orderBytes n (getD orders c 0)
@@ -126,6 +128,6 @@ orders-end d l n orders c sized a b e =
 pub yields-written : (d l x : List ℕ) (n at : ℕ) → Sized d n → at ≡ yieldsFrom (length d) n → l ≡ paste d at x (n + n)
     → l ≡ take (yieldsPlace n) d ++ take (n * 2) x ++ drop (ordersPlace n) d
 yields-written d l x n at w is g =
-    let e : at ≡ yieldsPlace n = omega (arith, w .long) in
+    let e = yields-from (w .long) refl is in
     let i : n + n ≡ n * 2 = omega arith in
     g ∙ ap₂ (λ j k. paste d j x k) e i
