@@ -1,15 +1,18 @@
 -- An order entry: how many bytes it has, what they say, and where it stands. All that depends on its width is here, and in src/orders.rt and its proofs.
-use Prim.Native.Nat.{ℕ, _+_, _-_, _^_, _≤_, _<_}
-use mathlib.Core.Path.{_≡_, refl, ap}
-use mathlib.Core.List.{List}
+use Prim.Native.Nat.{ℕ, _+_, _-_, _%_, _^_, _≤_, _<_}
+use mathlib.Core.Path.{_≡_, refl, ap, _∙_}
+use mathlib.Core.List.{List, _++_}
 use native.Mathlib.Omega.{arith}
 use native.Mathlib.Nat.{mul-le-mul-right}
 use borrow.Author.Tests.{le-leb}
-use lib.ListN.{length, getD, replicate}
+use lib.ListN.{length, getD, set, take, drop, replicate}
+use lib.Pow.{pow-mono}
+use lib.Seq.{sets}
 use Rattle.image.specs.Layout.{largest, lengthOf, orderWidth, orderFrom, orderPlace, imageLength}
 use Rattle.image.specs.Encode.{orderBytes}
 use Rattle.image.proofs.Search.{times-step}
 use Rattle.image.proofs.Has.{Has, has-first, has-one}
+use Rattle.image.proofs.Overwrite.{store-at}
 
 -- Its width
 
@@ -55,6 +58,15 @@ order-zeros n = refl
 pub entry-same : (s u : List ℕ) (n at : ℕ) → ((k : ℕ) → at ≤ k → getD u k 0 ≡ getD s k 0) → orderFrom u n at ≡ orderFrom s n at
 unfolding orderFrom
 entry-same s u n at same = same at (omega arith)
+
+-- A set of 1 to n, written
+
+pub order-put : (s : List ℕ) (n at x : ℕ) → at + orderWidth n ≤ length s → n ≤ largest → x < 2 ^ n
+    → sets s at (orderBytes n (x % 256 ^ orderWidth n)) ≡ take at s ++ orderBytes n x ++ drop (at + orderWidth n) s
+unfolding orderWidth orderBytes
+order-put s n at x l a b =
+    let e : x % 256 ≡ x = omega (arith, pow-mono {i = n} {j = largest} a) in
+    ap (λ y. set s at y) e ∙ store-at s at x (omega arith)
 
 -- Where it stands
 

@@ -1,8 +1,7 @@
 // Order entries of an image, read and written at their places: only here does the code know how many bytes an entry has.
 ghost use mathlib.Core.Path.{_≡_};
-ghost use Prim.Native.Nat.{_+_, _^_, _<_, _≤_};
-ghost use mathlib.Core.List.{_++_};
-ghost use lib.ListN.{length, take, drop};
+ghost use Prim.Native.Nat.{_%_, _^_, _<_};
+ghost use lib.Seq.{sets};
 ghost use Rattle.image.specs.Layout.{largest, orderFrom, orderWidth, ordersFrom};
 ghost use Rattle.image.specs.Encode.{orderBytes};
 use crate::bytes::less;
@@ -22,18 +21,22 @@ pub fn orders_place(length: usize, n: usize) -> usize
     less(length, n)
 }
 
-// The order entry at a place as a number.
+// The order entry at a place as a number; past the end of the image there are zeros.
 pub fn order_at(image: &[u8], n: usize, at: usize) -> u64
-    requires { ⌜ at + orderWidth n ≤ length (now image) ⌝ }
     ensures { λ r. ⌜ (r ≡ orderFrom (now (image .entry)) n at) × (r < 2 ^ largest) ⌝ }
 {
+    if image.len() <= at {
+        return 0;
+    }
     widen(image[at])
 }
 
-// An order entry written at a place.
+// An order entry written at a place, as far as it has room there and in its bytes.
 pub fn put_order(image: &mut [u8], n: usize, at: usize, order: u16)
-    requires { ⌜ (at + orderWidth n ≤ length (now image)) × (n ≤ largest) × (order < 2 ^ n) ⌝ }
-    ensures { λ r. ⌜ now (image .exit) ≡ take at (now (image .entry)) ++ orderBytes n order ++ drop (at + orderWidth n) (now (image .entry)) ⌝ }
+    ensures { λ r. ⌜ now (image .exit) ≡ sets (now (image .entry)) at (orderBytes n (order % 256 ^ orderWidth n)) ⌝ }
 {
-    image[at] = order as u8;
+    if image.len() <= at {
+        return;
+    }
+    image[at] = (order % 256) as u8;
 }

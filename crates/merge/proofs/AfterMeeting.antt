@@ -8,7 +8,7 @@ use lib.Dec.{eqb}
 use lib.ListN.{length, getD, take, drop}
 use lib.Seq.{take-suc, take-all}
 use Rattle.image.specs.Stalls.{each, bits, has}
-use Rattle.image.specs.Layout.{rowPlace, namePlace, yieldPlace, largest}
+use Rattle.image.specs.Layout.{rowPlace, namePlace, yieldPlace}
 use Rattle.image.specs.Encode.{Table, nameBytes, wordBytes, orderBytes, encode, tableOf}
 use Rattle.image.specs.declared.Name.{Name}
 use Rattle.image.specs.declared.Name.the-variants.{Never, With}

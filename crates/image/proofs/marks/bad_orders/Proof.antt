@@ -40,7 +40,7 @@ bad-orders-spec =
     (λ c κs. tt)
     (λ c κs. tt)
     (λ c. (looked-start _, bit-start, omega arith))
-    (λ c κs. omega (arith, order-within (c .before .loop .inv .0 .from) (c .loop-test .taken)))
+    (λ c κs. tt)
     (λ c. omega (arith, row-within (c .before .before .before .before .before .before .before .before .pre .0 .own-from) (c .before .before .before .before .before .before .before .before .pre .0 .own-to)))
     (λ c κs. tt)
     (λ c. omega (arith, bit-le largest (c .before .before .before .before .loop .inv .1) (omega arith)))

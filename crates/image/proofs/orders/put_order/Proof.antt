@@ -1,10 +1,10 @@
 -- An order entry written at a place.
+use mathlib.Core.Path.{refl, sym}
 use native.Mathlib.Omega.{arith}
 use borrow.Author.Needs.{needs}
-use lib.Pow.{pow-mono}
-use Rattle.image.specs.Layout.{largest, orderWidth}
+use lib.Seq.{set-out}
+use Rattle.image.specs.Layout.{orderWidth}
 use Rattle.image.specs.Encode.{orderBytes}
-use Rattle.image.proofs.Overwrite.{store-at}
 use Rattle.image.proofs.orders.put_order.Statement.{statement}
 use Rattle.image.proofs.orders.put_order.Tie as tie
 
@@ -13,7 +13,8 @@ unfolding orderWidth orderBytes
 put-order-spec =
     tie.close
     (tie.spec
-    (λ c. omega (arith, pow-mono {i = c .args .n} {j = largest} (c .pre .1)))
+    (λ c. sym (set-out (c .before .args .image .now) _ _ (c .if1 .taken)))
+    (λ c. record { fits = omega arith })
     (λ c. omega arith)
     (λ c. search needs)
-    (λ c. store-at (c .args .image .now) (c .args .at) (c .args .order) (omega arith)))
+    (λ c. refl))

@@ -28,7 +28,7 @@ marked-spec =
     (λ c κs. tt)
     (λ c κs. tt)
     (λ c. (omega arith, omega (arith, orders-from (c .before .before .before .pre .long) refl (c .orders-place .ensures)), bit-start, gather-start _))
-    (λ c κs. let i = c .before .loop .inv in omega (arith, order-within (i .2 .from) (c .loop-test .taken), i .1, c .before .before .before .before .before .pre .long))
+    (λ c κs. tt)
     (λ c κs. tt)
     (λ c. let i = c .before .before .before .loop .inv in omega (arith, gathered-lt (i .3) (i .2), bit-le largest (i .2) (omega arith), c .pick .ensures))
     (λ c. omega (arith, bit-le largest (c .before .before .before .loop .inv .2) (omega arith)))

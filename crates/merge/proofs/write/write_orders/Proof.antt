@@ -1,10 +1,10 @@
 -- The order entries of n stalls.
 use Prim.Native.Nat.{_+_, _-_, _≤_}
-use mathlib.Core.Path.{_≡_, refl}
+use mathlib.Core.Path.{_≡_, refl, _∙_}
 use native.Mathlib.Omega.{arith}
 use lib.ListN.{length}
 use Rattle.image.specs.Layout.{orderWidth, ordersPlace, orderPlace}
-use Rattle.image.proofs.OrderEntry.{entry-within, entry-next}
+use Rattle.image.proofs.OrderEntry.{order-put, entry-within, entry-next}
 use Rattle.image.proofs.Places.{orders-from}
 use Rattle.merge.specs.Body.{orderIn}
 use Rattle.merge.proofs.Written.{blocks, blocks-start, order-small, orders-next, orders-end}
@@ -29,13 +29,7 @@ write-orders-spec =
     (λ c. (omega arith, omega (arith, orders-from (c .before .before .before .pre .0 .long) refl (c .orders-place .ensures)), blocks-start _ _ _ _, refl))
     (λ c. omega arith)
     (λ c. omega arith)
-    (λ c κs.
-    let start = c .before .before .before .before .before .before in
-    let l = c .before .before .loop in (
-      omega (arith, l .inv .3, entry-within (start .args .n) _ (l .c) (start .pre .0 .long) refl (l .inv .1) (c .before .loop-test .taken)),
-      start .pre .0 .n-to,
-      order-small (start .args .n) (start .args .t3) (l .c) (start .pre .2) (c .before .loop-test .taken),
-    ))
+    (λ c κs. tt)
     (λ c.
     let start = c .before .before .before .before .before .before .before .before .before in
     let l = c .before .before .before .before .before .loop in
@@ -45,7 +39,8 @@ write-orders-spec =
     (λ c.
     let start = c .before .before .before .before .before .before .before .before .before in
     let l = c .before .before .before .before .before .loop in
-    let w = orders-next (start .args .image .now) (start .args .n) (start .args .t3) (start .pre .0) (l .c) (l .at) (c .before .before .before .before .loop-test .taken) (l .inv .1) (l .image) (c .before .before .put-order .last .0) (l .inv .2) (l .inv .3) (c .before .before .put-order .ensures) in
+    let within = entry-within (start .args .n) _ (l .c) (start .pre .0 .long) refl (l .inv .1) (c .before .before .before .before .loop-test .taken) in
+    let w = orders-next (start .args .image .now) (start .args .n) (start .args .t3) (start .pre .0) (l .c) (l .at) (c .before .before .before .before .loop-test .taken) (l .inv .1) (l .image) (c .before .before .put-order .last .0) (l .inv .2) (l .inv .3) (c .before .before .put-order .ensures ∙ order-put (l .image) (start .args .n) (l .at) _ (omega (arith, l .inv .3, within)) (start .pre .0 .n-to) (order-small (start .args .n) (start .args .t3) (l .c) (start .pre .2) (c .before .before .before .before .loop-test .taken))) in
     (omega arith, entry-next (start .args .n) _ (l .c) refl (c .before .before .before .before .before .before .before .order-width .ensures) (l .inv .1), w .0, w .1))
     (λ c. c .before .loop .inv .3)
     (λ c. let start = c .before .before .before .before .before in
