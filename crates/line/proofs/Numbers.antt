@@ -21,7 +21,7 @@ use Rattle.head.specs.Calls.{Outcome, milked, milkingCall}
 use Rattle.head.specs.Heard.{recordOf, HeardList, HeardInto, HeardFrom, HeardCall}
 use Rattle.merge.specs.Verdict.{undecided}
 use Rattle.merge.specs.Call.{MeetingOutcome, refusedMeeting, acceptedMeeting, metTogether, metGood, metChecked, meetingCall}
-use Rattle.merge.proofs.NewLabel.{newLabel-limit}
+use Rattle.merge.proofs.label.NewLabel.{newLabel-limit}
 
 -- a milking answers a number of 0 to 6
 pub milking-number : (s : List ℕ) (yield : ℕ) → milkingCall s yield .answer ≤ 6

@@ -20,7 +20,7 @@ use Rattle.image.proofs.Accepted.{accepted}
 use Rattle.head.specs.Calls.{refused, accepted as done, withCurrent, milked, milkingCall}
 use Rattle.merge.specs.Verdict.{undecided}
 use Rattle.merge.specs.Call.{MeetingOutcome, refusedMeeting, acceptedMeeting, metTogether, metGood, metChecked, meetingCall}
-use Rattle.merge.proofs.NewLabel.{newLabel-limit}
+use Rattle.merge.proofs.label.NewLabel.{newLabel-limit}
 use Rattle.line.specs.Parlour.{stateLength, headsOf, isOpen, slotPlace, imageOf, withImage, freshState}
 use Rattle.line.specs.Answer.{Reply, answerBytes, refusal, opening, milkedBy, milking, metBy, meetingOf, meeting, showing, HeardAnswer, Replies}
 use Rattle.line.specs.declared.frame.Frame.{Frame}

@@ -1,26 +1,5 @@
--- The lemmas of `merge`. What crates above cite is `pub mod`.
+-- The lemmas of `merge`, by theme: those of a module of the code stand beside its functions' proofs, and are listed in a file of its name (label.antt, known.antt ..).
+-- Here are those that several themes use, and the laws for callers. What crates above cite is `pub mod`.
 pub mod ByStalls
 pub mod Frames
-pub mod Commons
-pub mod Columns
-pub mod Agreeing
-pub mod Judging
-pub mod Marks
-pub mod OrderBytes
-pub mod Lowest
-pub mod LabelSets
-pub mod LabelRows
-pub mod Counting
-pub mod NewLabel
-pub mod Copies
-pub mod PairRows
-pub mod Mixing
-pub mod BodyRows
-pub mod Written
-pub mod BodyWritten
-pub mod AfterMeeting
-pub mod MeetingWritten
-pub mod Together
-pub mod MeetingCalls
-pub mod AfterLaws
 pub mod Theory

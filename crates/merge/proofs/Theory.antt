@@ -21,10 +21,10 @@ use Rattle.merge.specs.Verdict.{undecided}
 use Rattle.merge.specs.Merged.{merged}
 use Rattle.merge.specs.Call.{MeetingOutcome, refusedMeeting, acceptedMeeting, metTogether, metGood, metChecked, meetingCall}
 use Rattle.merge.specs.Theory.{Theory}
-use Rattle.merge.proofs.NewLabel.{newLabel-limit, newLabel-lowest, newLabel-free}
-use Rattle.merge.proofs.AfterMeeting.{take-each}
-use Rattle.merge.proofs.MeetingCalls.{apart, one-parlour}
-use Rattle.merge.proofs.AfterLaws as laws
+use Rattle.merge.proofs.label.NewLabel.{newLabel-limit, newLabel-lowest, newLabel-free}
+use Rattle.merge.proofs.meeting.AfterMeeting.{take-each}
+use Rattle.merge.proofs.meeting.MeetingCalls.{apart, one-parlour}
+use Rattle.merge.proofs.meeting.AfterLaws as laws
 
 zeros : (n : ℕ) → each n (λ r. 0 ∷ []) ≡ replicate n 0
 zeros n =

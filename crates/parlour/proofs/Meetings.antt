@@ -22,9 +22,9 @@ use Rattle.merge.specs.Label.{newLabel}
 use Rattle.merge.specs.Merged.{merged, verdictBytes}
 use Rattle.merge.specs.Verdict.{undecided}
 use Rattle.merge.specs.Call.{MeetingOutcome, refusedMeeting, acceptedMeeting, metTogether}
-use Rattle.merge.proofs.PairRows.{each-agree}
-use Rattle.merge.proofs.NewLabel.{newLabel-limit}
-use Rattle.merge.proofs.AfterLaws.{meeting-short, meeting-called, meeting-accepted}
+use Rattle.merge.proofs.pairs.PairRows.{each-agree}
+use Rattle.merge.proofs.label.NewLabel.{newLabel-limit}
+use Rattle.merge.proofs.meeting.AfterLaws.{meeting-short, meeting-called, meeting-accepted}
 use Rattle.parlour.specs.Item.{Item, meeting, counts}
 use Rattle.parlour.specs.History.{meetings, events, yieldAfter, yieldAt}
 use Rattle.parlour.specs.Table.{tableAt, tableAfter, imageAfter}

@@ -19,7 +19,7 @@ use Rattle.labels.proofs.Rule.{label-free, label-lowest}
 use Rattle.image.specs.Encode.{Table}
 use Rattle.image.proofs.Passing.{or-holds, some-holds}
 use Rattle.merge.specs.Label.{isMeeting, rowHas, labelUsed, newLabel}
-use Rattle.merge.proofs.NewLabel.{newLabel-lowest, newLabel-free}
+use Rattle.merge.proofs.label.NewLabel.{newLabel-lowest, newLabel-free}
 use Rattle.parlour.specs.Table.{nameIn}
 use Rattle.parlour.proofs.Names.{meeting-is}
 use Rattle.parlour.proofs.Says.{Says}

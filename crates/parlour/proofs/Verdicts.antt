@@ -23,7 +23,7 @@ use Rattle.image.specs.declared.Name.{Name}
 use Rattle.image.proofs.Passing.{and-holds, or-holds, some-holds, some-fails}
 use Rattle.merge.specs.Known as Rule
 use Rattle.merge.specs.Verdict.{sameName, judge, verdict, undecided}
-use Rattle.merge.proofs.Agreeing.{known-agree}
+use Rattle.merge.proofs.known.Agreeing.{known-agree}
 use Rattle.parlour.specs.Table.{nameIn}
 use Rattle.parlour.proofs.Names.{never-is, same-self, same-place}
 use Rattle.parlour.proofs.Says.{Says, own-names}

@@ -5,7 +5,7 @@ use mathlib.Core.List.{List}
 use lib.ListN.{length, length-set}
 use lib.Seq.{paste, paste-zero}
 use native.Mathlib.Omega.{arith}
-use Rattle.merge.proofs.Copies.{copy-next}
+use Rattle.merge.proofs.write.Copies.{copy-next}
 use Rattle.line.proofs.parlour.write_image.Statement.{statement}
 use Rattle.line.proofs.parlour.write_image.Tie as tie
 

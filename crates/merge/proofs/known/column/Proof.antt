@@ -1,7 +1,7 @@
 -- One column of an own row, seen against the other own row.
 use native.Mathlib.Omega.{arith}
 use borrow.Author.Needs.{needs}
-use Rattle.merge.proofs.Columns.{across-fits, seen-heard, seen-same, seen-common}
+use Rattle.merge.proofs.known.Columns.{across-fits, seen-heard, seen-same, seen-common}
 use Rattle.merge.proofs.known.column.Statement.{statement}
 use Rattle.merge.proofs.known.column.Tie as tie
 

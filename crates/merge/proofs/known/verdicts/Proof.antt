@@ -1,7 +1,7 @@
 -- The verdicts of a meeting.
 use mathlib.Core.Path.{refl}
 use Rattle.merge.proofs.Frames.{framed-sized, own-row-fits}
-use Rattle.merge.proofs.Judging.{verdict-sets}
+use Rattle.merge.proofs.known.Judging.{verdict-sets}
 use Rattle.merge.proofs.known.verdicts.Statement.{statement}
 use Rattle.merge.proofs.known.verdicts.Tie as tie
 

@@ -9,7 +9,7 @@ use Rattle.image.proofs.Gather.{Bit, bit-start, bit-next, bit-le, Gathered, gat
 use Rattle.merge.specs.Known.{common}
 use Rattle.merge.specs.Verdict.{sameName}
 use Rattle.merge.specs.Views.{nameIn, rowName}
-use Rattle.merge.proofs.Columns.{seen-next}
+use Rattle.merge.proofs.known.Columns.{seen-next}
 use Rattle.merge.proofs.known.view.Statement.{statement}
 use Rattle.merge.proofs.known.view.Tie as tie
 

@@ -11,7 +11,7 @@ use Rattle.image.specs.Layout.{nameFrom}
 use Rattle.image.proofs.Bits.{bitOf-is}
 use Rattle.merge.specs.Label.{isMeeting}
 use Rattle.merge.specs.LabelSet.{labelSet}
-use Rattle.merge.proofs.LabelSets.{set-meeting}
+use Rattle.merge.proofs.label.LabelSets.{set-meeting}
 use Rattle.merge.proofs.label.label_of.Statement.{statement}
 use Rattle.merge.proofs.label.label_of.Tie as tie
 

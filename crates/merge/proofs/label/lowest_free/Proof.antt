@@ -1,5 +1,5 @@
 -- The lowest label that a set has not.
-use Rattle.merge.proofs.Lowest.{lowest-other}
+use Rattle.merge.proofs.label.Lowest.{lowest-other}
 use Rattle.merge.proofs.label.lowest_free.Statement.{statement}
 use Rattle.merge.proofs.label.lowest_free.Tie as tie
 

@@ -9,8 +9,8 @@ use Rattle.image.specs.Encode.{tableOf}
 use Rattle.image.specs.Frame.{Sized, Framed}
 use Rattle.merge.specs.Label.{rowHas, lowestFrom, newLabel}
 use Rattle.merge.specs.LabelSet.{labelSet, hasLabel}
-use Rattle.merge.proofs.Lowest.{lowest-to}
-use Rattle.merge.proofs.NewLabel.{label-chosen}
+use Rattle.merge.proofs.label.Lowest.{lowest-to}
+use Rattle.merge.proofs.label.NewLabel.{label-chosen}
 use Rattle.merge.proofs.label.new_label.Statement.{statement}
 use Rattle.merge.proofs.label.new_label.Tie as tie
 

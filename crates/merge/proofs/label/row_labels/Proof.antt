@@ -7,7 +7,7 @@ use native.Mathlib.Omega.{arith}
 use borrow.Author.Needs.{needs}
 use lib.Bits.{bitOr}
 use Rattle.merge.specs.LabelSet.{labelSet, nameHas}
-use Rattle.merge.proofs.LabelSets.{set-or}
+use Rattle.merge.proofs.label.LabelSets.{set-or}
 use Rattle.merge.proofs.label.row_labels.Statement.{statement}
 use Rattle.merge.proofs.label.row_labels.Tie as tie
 

@@ -5,7 +5,7 @@ use native.Mathlib.Omega.{arith}
 use Rattle.image.specs.Encode.{tableOf}
 use Rattle.image.proofs.Places.{row-within}
 use Rattle.merge.specs.Label.{rowHas}
-use Rattle.merge.proofs.LabelRows.{Rows, rows-start, rows-next, rows-end, row-column, row-set}
+use Rattle.merge.proofs.label.LabelRows.{Rows, rows-start, rows-next, rows-end, row-column, row-set}
 use Rattle.merge.proofs.label.used_labels.Statement.{statement}
 use Rattle.merge.proofs.label.used_labels.Tie as tie
 

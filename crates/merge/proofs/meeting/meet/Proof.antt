@@ -2,7 +2,7 @@
 use native.Mathlib.Omega.{arith}
 use borrow.Author.Needs.{needs}
 use Rattle.image.proofs.Accepted.{accepted}
-use Rattle.merge.proofs.Together.{met-nine, met-done}
+use Rattle.merge.proofs.meeting.Together.{met-nine, met-done}
 use Rattle.merge.proofs.meeting.meet.Statement.{statement}
 use Rattle.merge.proofs.meeting.meet.Tie as tie
 

@@ -4,7 +4,7 @@ use native.Mathlib.Omega.{arith}
 use borrow.Author.Needs.{needs}
 use Rattle.image.specs.Check.{numberOf}
 use Rattle.image.proofs.Stages.{refused-le}
-use Rattle.merge.proofs.MeetingCalls.{one-parlour, first-refused, second-refused, pair-refused, buffer-refused, pair-met}
+use Rattle.merge.proofs.meeting.MeetingCalls.{one-parlour, first-refused, second-refused, pair-refused, buffer-refused, pair-met}
 use Rattle.merge.proofs.meeting.meeting.Statement.{statement}
 use Rattle.merge.proofs.meeting.meeting.Tie as tie
 

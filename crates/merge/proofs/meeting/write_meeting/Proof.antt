@@ -2,7 +2,7 @@
 use native.Mathlib.Omega.{arith}
 use borrow.Author.Needs.{needs}
 use Rattle.image.specs.Stalls.{has}
-use Rattle.merge.proofs.MeetingWritten.{may-write, was-written, copied}
+use Rattle.merge.proofs.meeting.MeetingWritten.{may-write, was-written, copied}
 use Rattle.merge.proofs.meeting.write_meeting.Statement.{statement}
 use Rattle.merge.proofs.meeting.write_meeting.Tie as tie
 

@@ -1,7 +1,7 @@
 -- The order marks after a meeting.
 use Rattle.merge.proofs.Frames.{framed-sized}
-use Rattle.merge.proofs.Marks.{sorted-is}
-use Rattle.merge.proofs.OrderBytes.{ordered}
+use Rattle.merge.proofs.orders.Marks.{sorted-is}
+use Rattle.merge.proofs.orders.OrderEntries.{ordered}
 use Rattle.merge.proofs.orders.orders_after.Statement.{statement}
 use Rattle.merge.proofs.orders.orders_after.Tie as tie
 

@@ -2,7 +2,7 @@
 use Prim.Native.Nat.{_-_}
 use mathlib.Core.Path.{refl, ap, _∙_}
 use lib.Bits.{bitAnd}
-use Rattle.merge.proofs.Marks.{pair-bits, apart-bits}
+use Rattle.merge.proofs.orders.Marks.{pair-bits, apart-bits}
 use Rattle.merge.proofs.orders.sorted.Statement.{statement}
 use Rattle.merge.proofs.orders.sorted.Tie as tie
 

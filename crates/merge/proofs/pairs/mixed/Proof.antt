@@ -7,7 +7,7 @@ use lib.ListN.{length, length-set}
 use Rattle.image.specs.Layout.{longestRow}
 use Rattle.image.specs.Stalls.{each, has}
 use Rattle.merge.specs.Body.{padded, mixedPair}
-use Rattle.merge.proofs.PairRows.{pairs-next, mixed-wide, mixed-at}
+use Rattle.merge.proofs.pairs.PairRows.{pairs-next, mixed-wide, mixed-at}
 use Rattle.merge.proofs.pairs.mixed.Statement.{statement}
 use Rattle.merge.proofs.pairs.mixed.Tie as tie
 

@@ -3,7 +3,7 @@ use mathlib.Core.Path.{refl}
 use native.Mathlib.Omega.{arith}
 use Rattle.image.specs.Stalls.{has}
 use Rattle.merge.proofs.Frames.{own-row-fits}
-use Rattle.merge.proofs.Mixing.{mixed-latest}
+use Rattle.merge.proofs.pairs.Mixing.{mixed-latest}
 use Rattle.merge.proofs.rows.latest_row.Statement.{statement}
 use Rattle.merge.proofs.rows.latest_row.Tie as tie
 

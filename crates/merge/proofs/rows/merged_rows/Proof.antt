@@ -9,7 +9,7 @@ use Rattle.merge.specs.Body.{padded, bodyRow}
 use Rattle.merge.specs.ByStall.{ByStall}
 use Rattle.merge.proofs.ByStalls.{by-stall-start, by-stall-next, by-stall-end}
 use Rattle.merge.proofs.Frames.{row-behind}
-use Rattle.merge.proofs.BodyRows.{row-is, latest-wider, rows-narrower}
+use Rattle.merge.proofs.rows.BodyRows.{row-is, latest-wider, rows-narrower}
 use Rattle.merge.proofs.rows.merged_rows.Statement.{statement}
 use Rattle.merge.proofs.rows.merged_rows.Tie as tie
 

@@ -5,7 +5,7 @@ use mathlib.Core.List.{_++_}
 use native.Mathlib.Omega.{arith}
 use lib.ListN.{length, take, drop, replicate, length-set}
 use Rattle.image.specs.Layout.{longestRow}
-use Rattle.merge.proofs.Copies.{front-next, front-end}
+use Rattle.merge.proofs.write.Copies.{front-next, front-end}
 use Rattle.merge.proofs.rows.row_of.Statement.{statement}
 use Rattle.merge.proofs.rows.row_of.Tie as tie
 

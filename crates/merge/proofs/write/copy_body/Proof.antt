@@ -5,7 +5,7 @@ use mathlib.Core.List.{List, _++_, append-nil}
 use native.Mathlib.Omega.{arith}
 use lib.ListN.{length, take, drop, set, getD, length-set, length-drop}
 use lib.Seq.{paste, paste-zero, getD-drop, take-all, drop-length}
-use Rattle.merge.proofs.Copies.{copy-next}
+use Rattle.merge.proofs.write.Copies.{copy-next}
 use Rattle.merge.proofs.write.copy_body.Statement.{statement}
 use Rattle.merge.proofs.write.copy_body.Tie as tie
 

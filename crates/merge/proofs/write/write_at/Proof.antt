@@ -5,7 +5,7 @@ use mathlib.Core.List.{List}
 use native.Mathlib.Omega.{arith}
 use lib.ListN.{length, length-set}
 use lib.Seq.{paste, paste-zero}
-use Rattle.merge.proofs.Copies.{copy-next}
+use Rattle.merge.proofs.write.Copies.{copy-next}
 use Rattle.merge.proofs.write.write_at.Statement.{statement}
 use Rattle.merge.proofs.write.write_at.Tie as tie
 

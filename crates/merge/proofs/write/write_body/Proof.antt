@@ -1,6 +1,6 @@
 -- The rows, yields and order entries of n stalls.
 use borrow.Author.Needs.{needs}
-use Rattle.merge.proofs.BodyWritten.{body-written}
+use Rattle.merge.proofs.write.BodyWritten.{body-written}
 use Rattle.merge.proofs.write.write_body.Statement.{statement}
 use Rattle.merge.proofs.write.write_body.Tie as tie
 

@@ -1,7 +1,7 @@
 -- The yields of n stalls.
 use native.Mathlib.Omega.{arith}
 use borrow.Author.Needs.{needs}
-use Rattle.merge.proofs.Written.{yields-written}
+use Rattle.merge.proofs.write.Written.{yields-written}
 use Rattle.merge.proofs.write.write_yields.Statement.{statement}
 use Rattle.merge.proofs.write.write_yields.Tie as tie
 

@@ -2,7 +2,7 @@
 use borrow.Author.Needs.{needs}
 use Rattle.image.specs.Stalls.{has}
 use Rattle.image.proofs.Places.{yields-from}
-use Rattle.merge.proofs.Mixing.{mixed-yields}
+use Rattle.merge.proofs.pairs.Mixing.{mixed-yields}
 use Rattle.merge.proofs.yields.merged_yields.Statement.{statement}
 use Rattle.merge.proofs.yields.merged_yields.Tie as tie
 

@@ -12,7 +12,7 @@ use Rattle.image.proofs.Bits.{bits-lt}
 use Rattle.merge.specs.declared.Sets.{Sets}
 use Rattle.merge.specs.ByStall.{ByStall}
 use Rattle.merge.specs.Orders.{Sorted, orderOf, Ordered}
-use Rattle.merge.proofs.Marks.{order-is}
+use Rattle.merge.proofs.orders.Marks.{order-is}
 
 -- a set of 1 to n fits an order entry by value
 fits : (n : ℕ) (f : ℕ → Bool) → n ≤ largest → bits n f % 65536 ≡ bits n f

@@ -26,9 +26,9 @@ use Rattle.merge.specs.Verdict.{sameName, judge, verdict, undecided}
 use Rattle.merge.specs.Label.{newLabel}
 use Rattle.merge.specs.Merged.{met, firstHas, secondHas, supplier, supplierStall, latestName, mergedNames, mergedYields, orderBetween, mergedOrder, merged, verdictBytes}
 use Rattle.merge.specs.Call.{refusedMeeting, acceptedMeeting, metTogether, metGood, metChecked, meetingCall}
-use Rattle.merge.proofs.Agreeing.{verdict-agree}
-use Rattle.merge.proofs.PairRows.{each-agree}
-use Rattle.merge.proofs.NewLabel.{newLabel-limit}
+use Rattle.merge.proofs.known.Agreeing.{verdict-agree}
+use Rattle.merge.proofs.pairs.PairRows.{each-agree}
+use Rattle.merge.proofs.label.NewLabel.{newLabel-limit}
 
 -- Cases
 

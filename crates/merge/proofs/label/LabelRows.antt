@@ -13,7 +13,7 @@ use Rattle.image.proofs.Search.{times-step, some-suc}
 use Rattle.image.proofs.Places.{row-within}
 use Rattle.merge.specs.Label.{rowHas}
 use Rattle.merge.specs.LabelSet.{labelSet, nameHas, Column}
-use Rattle.merge.proofs.LabelSets.{set-agree, set-none, set-or}
+use Rattle.merge.proofs.label.LabelSets.{set-agree, set-none, set-or}
 
 -- the invariant: before the turn at r, the labels of the rows below r have been gathered, and row r starts at its place
 pub record Rows (n row r set : ℕ) (f : ℕ → ℕ → Bool) : Type 0 where

@@ -15,7 +15,7 @@ use Rattle.image.proofs.Passing.{and-holds, leb-holds}
 use Rattle.merge.specs.Known.{common}
 use Rattle.merge.specs.Verdict.{sameName}
 use Rattle.merge.specs.Views.{partnerIn, labelIn, nameIn, rowName, across, shared}
-use Rattle.merge.proofs.Commons.{shared-common}
+use Rattle.merge.proofs.known.Commons.{shared-common}
 
 proper-at : (s : List ℕ) (at : ℕ) → Proper (nameIn s at)
 proper-at s at = proper-from (getD s at 0) (getD s (at + 1) 0)

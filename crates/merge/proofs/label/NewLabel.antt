@@ -10,9 +10,9 @@ use Rattle.image.specs.Layout.{labelLimit}
 use Rattle.image.specs.Encode.{Table}
 use Rattle.merge.specs.Label.{rowHas, lowestFrom, labelUsed, pairNames, newLabel}
 use Rattle.merge.specs.LabelSet.{labelSet, hasLabel}
-use Rattle.merge.proofs.LabelSets.{has-label, set-or}
-use Rattle.merge.proofs.Lowest.{lowest-to, lowest-below, lowest-stops, lowest-is, lowest-agree}
-use Rattle.merge.proofs.Counting.{not-all-used}
+use Rattle.merge.proofs.label.LabelSets.{has-label, set-or}
+use Rattle.merge.proofs.label.Lowest.{lowest-to, lowest-below, lowest-stops, lowest-is, lowest-agree}
+use Rattle.merge.proofs.label.Counting.{not-all-used}
 
 module _ (n p : ℕ) (a : Table) (q : ℕ) (b : Table) where
   newLabel-most : newLabel n p a q b ≤ pairNames n

@@ -13,8 +13,8 @@ use Rattle.image.proofs.Bits.{bits-lt}
 use Rattle.merge.specs.Merged.{mergedOrder}
 use Rattle.merge.specs.Orders.{Ordered}
 use Rattle.merge.specs.Body.{bodyRow, bodyYield, padded, orderIn, rowIn, imageAfter}
-use Rattle.merge.proofs.BodyWritten.{rows-long, yields-long, rows-in, yields-in}
-use Rattle.merge.proofs.AfterMeeting.{orders-in}
+use Rattle.merge.proofs.write.BodyWritten.{rows-long, yields-long, rows-in, yields-in}
+use Rattle.merge.proofs.meeting.AfterMeeting.{orders-in}
 
 module _ (s u : List ℕ) (n p q k : ℕ) (t : ℕ → Bool) (a : Framed s n p) (b : Framed u n q) (rows : List (List ℕ)) (yields orders : List ℕ)
     (rows-are : (r : ℕ) → 1 ≤ r → r ≤ n → getD rows (r - 1) [] ≡ padded n (bodyRow s u n p q k t r)) (yields-are : yields ≡ padded n (each n (bodyYield s u n p q t)))

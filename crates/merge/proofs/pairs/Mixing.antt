@@ -7,7 +7,7 @@ use Rattle.image.specs.Stalls.{each}
 use Rattle.image.specs.Layout.{rowPlace, yieldPlace, yieldsPlace}
 use Rattle.merge.specs.declared.pairs.Side.{Side}
 use Rattle.merge.specs.Body.{pairAt, pairBytes, padded, mixedPair, latestPair, bodyYield}
-use Rattle.merge.proofs.PairRows.{each-agree}
+use Rattle.merge.proofs.pairs.PairRows.{each-agree}
 
 -- one test for the image and the place
 name-from : (s u : List ℕ) (n p q x : ℕ) (t : Bool) → cond t (pairAt u (rowPlace n q + x)) (pairAt s (rowPlace n p + x)) ≡ pairAt (cond t u s) (rowPlace n (cond t q p) + x)

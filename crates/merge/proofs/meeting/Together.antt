@@ -17,7 +17,7 @@ use Rattle.merge.specs.ByStall.{ByStall}
 use Rattle.merge.specs.Views.{Decides}
 use Rattle.merge.specs.Body.{imageAfter}
 use Rattle.merge.specs.Call.{MeetingOutcome, metTogether}
-use Rattle.merge.proofs.AfterMeeting.{first-after, second-after, verdicts-in}
+use Rattle.merge.proofs.meeting.AfterMeeting.{first-after, second-after, verdicts-in}
 
 module _ (s u buffer : List ℕ) (n p q : ℕ) (d : Decided) (w : Decides n p (tableOf s n) q (tableOf u n) d) where
   -- the set of the undecided is empty exactly if no verdict is 9

@@ -26,8 +26,8 @@ use Rattle.merge.specs.ByStall.{ByStall}
 use Rattle.merge.specs.Views.{Decides}
 use Rattle.merge.specs.declared.Decided.{Decided}
 use Rattle.merge.specs.Body.{pairAt, latestPair, bodyRow, bodyYield, orderIn}
-use Rattle.merge.proofs.PairRows.{each-agree}
-use Rattle.merge.proofs.Judging.{firstKnown, secondKnown, same}
+use Rattle.merge.proofs.pairs.PairRows.{each-agree}
+use Rattle.merge.proofs.known.Judging.{firstKnown, secondKnown, same}
 
 -- the first bytes of a list, one a stall
 pub take-each : (n : ℕ) (l : List ℕ) (f : ℕ → ℕ) → n ≤ length l → ((r : ℕ) → 1 ≤ r → r ≤ n → getD l (r - 1) 0 ≡ f r) → take n l ≡ each n (λ r. f r ∷ [])

@@ -1,0 +1,2 @@
+-- The row of each stall, by value.
+pub mod BodyRows
