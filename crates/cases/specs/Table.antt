@@ -5,7 +5,7 @@ use mathlib.Core.List.{List, [], _∷_, _++_}
 use lib.Dec.{eqb}
 use lib.ListN.{replicate}
 use Rattle.image.specs.Stalls.{each}
-use Rattle.merge.specs.Examples.{nine-first, nine-second}
+use Rattle.image.specs.Examples.{withLabel, nine-first, nine-second, listing}
 use Rattle.cases.specs.Case.{Given, labels, verdicts, firsts, together, milked, lines, number, lent, everyTwo}
 
 pub record Case : Type 0 where
@@ -19,20 +19,6 @@ given gives expected = record { given = given; expected = expected }
 -- document 003's example 2.4
 abbrev pub example-2-4 : List (ℕ × ℕ)
 example-2-4 = (1, 2) ∷ (1, 3) ∷ (1, 4) ∷ (4, 5) ∷ (2, 5) ∷ (2, 4) ∷ []
-
--- an image of 3 stalls, of which 1 and 2 have met with this label
-abbrev pub withLabel : ℕ → List ℕ
-withLabel k = (3 ∷ 1 ∷ 0 ∷ 0 ∷ []) ++ (2 ∷ k ∷ 1 ∷ k ∷ 0 ∷ 0 ∷ []) ++ (2 ∷ k ∷ 1 ∷ k ∷ 0 ∷ 0 ∷ []) ++ replicate 12 0 ++ (3 ∷ 3 ∷ 0 ∷ [])
-
--- the image that the listing shows
-abbrev pub listing : List ℕ
-listing =
-    (0x03 ∷ 0x03 ∷ 0x00 ∷ 0x00 ∷ [])
-    ++ (0x02 ∷ 0x00 ∷ 0x01 ∷ 0x00 ∷ 0x00 ∷ 0x00 ∷ [])
-    ++ (0x02 ∷ 0x00 ∷ 0x03 ∷ 0x00 ∷ 0x02 ∷ 0x00 ∷ [])
-    ++ (0x02 ∷ 0x00 ∷ 0x03 ∷ 0x00 ∷ 0x02 ∷ 0x00 ∷ [])
-    ++ (0x00 ∷ 0x12 ∷ 0x00 ∷ 0x00 ∷ 0x00 ∷ 0x00 ∷ [])
-    ++ (0x07 ∷ 0x06 ∷ 0x06 ∷ [])
 
 -- The first meeting of a parlour, of p and q: "The two that met get the new name and their current yields; their two rows are the new list of latests. Marks: every
 -- heard stall has one to each of the two that met". Nobody else was heard, and nobody was milked.

@@ -61,19 +61,19 @@ any-test n f = go (some n f) (some-found n f)
     go t (nowhere g) = ap not (eq-eqb (bits n f) 0 (bits-agree n f (λ s. false) g ∙ bits-none n))
 
 -- the set of one stall
-single : (n p : ℕ) → 1 ≤ p → bits n (λ s. eqb s p) ≡ cond (leb p n) (2 ^ (p - 1)) 0
+pub single-bits : (n p : ℕ) → 1 ≤ p → bits n (λ s. eqb s p) ≡ cond (leb p n) (2 ^ (p - 1)) 0
 unfolding bits
-single zero p l = ap (λ t. cond t (2 ^ (p - 1)) 0) (sym (lt-leb p 0 l))
-single (suc n) p l =
+single-bits zero p l = ap (λ t. cond t (2 ^ (p - 1)) 0) (sym (lt-leb p 0 l))
+single-bits (suc n) p l =
     elim (ℕ-discrete (suc n) p) [
       | yes e ↦
           let i : n ≡ p - 1 = omega arith in
-          rw (single n p l, lt-leb p n (omega arith), eq-eqb (suc n) p e, le-leb p (suc n) (omega arith), ← i) (omega arith)
+          rw (single-bits n p l, lt-leb p n (omega arith), eq-eqb (suc n) p e, le-leb p (suc n) (omega arith), ← i) (omega arith)
       | no e ↦ elim (decLe p n) [
-        | yes a ↦ rw (single n p l, le-leb p n a, ne-eqb (suc n) p e, le-leb p (suc n) (omega arith)) (omega arith)
-        | no a ↦ rw (single n p l, lt-leb p n (omega arith), ne-eqb (suc n) p e, lt-leb p (suc n) (omega arith)) refl
+        | yes a ↦ rw (single-bits n p l, le-leb p n a, ne-eqb (suc n) p e, le-leb p (suc n) (omega arith)) (omega arith)
+        | no a ↦ rw (single-bits n p l, lt-leb p n (omega arith), ne-eqb (suc n) p e, lt-leb p (suc n) (omega arith)) refl
       ]
     ]
 
 pub one-bits : (n p : ℕ) → 1 ≤ p → p ≤ n → n ≤ 64 → bitOf p ≡ bits n (λ s. eqb s p)
-one-bits n p a b c = bitOf-is a (omega arith) ∙ sym (single n p a ∙ ap (λ t. cond t (2 ^ (p - 1)) 0) (le-leb p n b))
+one-bits n p a b c = bitOf-is a (omega arith) ∙ sym (single-bits n p a ∙ ap (λ t. cond t (2 ^ (p - 1)) 0) (le-leb p n b))

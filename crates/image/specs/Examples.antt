@@ -36,7 +36,7 @@ unfolding evaluated number
 refused-examples = refl
 
 -- an image of 3 stalls, of which 1 and 2 have met with this label
-withLabel : ℕ → List ℕ
+abbrev pub withLabel : ℕ → List ℕ
 withLabel k =
     (3 ∷ 1 ∷ 0 ∷ 0 ∷ [])
     ++ (2 ∷ k ∷ 1 ∷ k ∷ 0 ∷ 0 ∷ [])
@@ -44,20 +44,27 @@ withLabel k =
     ++ replicate 12 0
     ++ (3 ∷ 3 ∷ 0 ∷ [])
 
+-- the images of number 9's example
+abbrev pub nine-first : List ℕ
+nine-first = 2 ∷ 1 ∷ 0 ∷ 0 ∷ 2 ∷ 0 ∷ 1 ∷ 0 ∷ 2 ∷ 0 ∷ 1 ∷ 0 ∷ 0 ∷ 0 ∷ 0 ∷ 0 ∷ 3 ∷ 3 ∷ []
+
+abbrev pub nine-second : List ℕ
+nine-second = 2 ∷ 2 ∷ 0 ∷ 0 ∷ 2 ∷ 1 ∷ 1 ∷ 1 ∷ 2 ∷ 1 ∷ 1 ∷ 1 ∷ 0 ∷ 0 ∷ 0 ∷ 0 ∷ 3 ∷ 3 ∷ []
+
 -- N = 3: label 12 passes, 13 does not; a fresh image and both images of number 9's example pass
 accepted-examples : map number
     (withLabel 12
     ∷ withLabel 13
     ∷ (2 ∷ 1 ∷ replicate 16 0)
-    ∷ (2 ∷ 1 ∷ 0 ∷ 0 ∷ 2 ∷ 0 ∷ 1 ∷ 0 ∷ 2 ∷ 0 ∷ 1 ∷ 0 ∷ 0 ∷ 0 ∷ 0 ∷ 0 ∷ 3 ∷ 3 ∷ [])
-    ∷ (2 ∷ 2 ∷ 0 ∷ 0 ∷ 2 ∷ 1 ∷ 1 ∷ 1 ∷ 2 ∷ 1 ∷ 1 ∷ 1 ∷ 0 ∷ 0 ∷ 0 ∷ 0 ∷ 3 ∷ 3 ∷ [])
+    ∷ nine-first
+    ∷ nine-second
     ∷ [])
     ≡ 0 ∷ 5 ∷ 0 ∷ 0 ∷ 0 ∷ []
-unfolding evaluated number withLabel
+unfolding evaluated number
 accepted-examples = refl
 
 -- the listing's image: head 3 after the meetings 1-2 and 2-3, stall 1 milked with 18 before
-listing : List ℕ
+abbrev pub listing : List ℕ
 listing =
     3 ∷ 3 ∷ 0 ∷ 0
     ∷ 2 ∷ 0 ∷ 1 ∷ 0 ∷ 0 ∷ 0
@@ -68,5 +75,5 @@ listing =
 
 -- it passes, and is the image of what it says
 listing-is-encoded : (number listing ≡ 0) × (encode 3 3 (tableOf listing 3) ≡ listing)
-unfolding evaluated number listing
+unfolding evaluated number
 listing-is-encoded = (refl, refl)

@@ -4,6 +4,7 @@ use mathlib.Core.Path.{_≡_, refl}
 use mathlib.Core.Bool.{Bool, true, false, true≢false}
 use mathlib.Core.List.{List, [], _∷_, _++_, map, flatMap}
 use lib.ListN.{replicate}
+use Rattle.image.specs.Examples.{listing}
 use Rattle.merge.specs.Examples.{evaluated as merge-evaluated}
 use Rattle.head.specs.Calls.{milked, milkingCall}
 use Rattle.line.specs.Digits.{isDigit, digitValue, allDigits, wholePairs, pairValue, bytesOf, digitOf, digitsOf}
@@ -82,8 +83,7 @@ listing-example : answersTo shut (map digitsOf
     ∷ (0x00 ∷ [])
     ∷ (0x00 ∷ 0x00 ∷ 0x00 ∷ 0x00 ∷ 0x00 ∷ [])
     ∷ (0x00 ∷ 0x00 ∷ 0x01 ∷ 0x01 ∷ 0x00 ∷ [])
-    ∷ (0x00 ∷ 0x03 ∷ 0x03 ∷ 0x00 ∷ 0x00 ∷ 0x02 ∷ 0x00 ∷ 0x01 ∷ 0x00 ∷ 0x00 ∷ 0x00 ∷ 0x02 ∷ 0x00 ∷ 0x03 ∷ 0x00 ∷ 0x02 ∷ 0x00
-    ∷ 0x02 ∷ 0x00 ∷ 0x03 ∷ 0x00 ∷ 0x02 ∷ 0x00 ∷ 0x00 ∷ 0x12 ∷ 0x00 ∷ 0x00 ∷ 0x00 ∷ 0x00 ∷ 0x07 ∷ 0x06 ∷ 0x06 ∷ [])
+    ∷ (0x00 ∷ listing)
     ∷ []
 unfolding answered replyTo answersTo
 listing-example = refl

@@ -6,7 +6,7 @@ use mathlib.Core.List.{List, [], _∷_, _++_}
 use lib.ListN.{getD, set, replicate}
 use Rattle.image.specs.Fresh.{freshImage}
 use Rattle.image.specs.Encode.{encode, tableOf}
-use Rattle.image.specs.Examples.{evaluated as image-evaluated}
+use Rattle.image.specs.Examples.{evaluated as image-evaluated, nine-first, nine-second, listing}
 use Rattle.merge.specs.Known.{common, known}
 use Rattle.merge.specs.Verdict.{verdict, undecided}
 use Rattle.merge.specs.Label.{labelUsed, lowestFrom, newLabel}
@@ -66,18 +66,11 @@ unfolding evaluated fresh meet run verdictsAfter
 verdict-examples = (refl, refl, refl)
 
 -- both images of number 9's example do not belong together
-unfoldable pub nine-first : List ℕ
-nine-first = 2 ∷ 1 ∷ 0 ∷ 0 ∷ 2 ∷ 0 ∷ 1 ∷ 0 ∷ 2 ∷ 0 ∷ 1 ∷ 0 ∷ 0 ∷ 0 ∷ 0 ∷ 0 ∷ 3 ∷ 3 ∷ []
-
-unfoldable pub nine-second : List ℕ
-nine-second = 2 ∷ 2 ∷ 0 ∷ 0 ∷ 2 ∷ 1 ∷ 1 ∷ 1 ∷ 2 ∷ 1 ∷ 1 ∷ 1 ∷ 0 ∷ 0 ∷ 0 ∷ 0 ∷ 3 ∷ 3 ∷ []
-
 nine-example : undecided 2 1 (tableOf nine-first 2) 2 (tableOf nine-second 2) ≡ true
-unfolding evaluated nine-first nine-second
+unfolding evaluated
 nine-example = refl
 
 -- the listing: stall 1 milked with 18, then 1-2 and 2-3: the image of head 3
-listing-example : imageOf (run 3 ((3 ∷ 1 ∷ 0 ∷ 0x12 ∷ replicate 27 0) ∷ freshImage 3 2 ∷ freshImage 3 3 ∷ []) ((1, 2) ∷ (2, 3) ∷ [])) 3
-    ≡ 3 ∷ 3 ∷ 0 ∷ 0 ∷ 2 ∷ 0 ∷ 1 ∷ 0 ∷ 0 ∷ 0 ∷ 2 ∷ 0 ∷ 3 ∷ 0 ∷ 2 ∷ 0 ∷ 2 ∷ 0 ∷ 3 ∷ 0 ∷ 2 ∷ 0 ∷ 0 ∷ 0x12 ∷ 0 ∷ 0 ∷ 0 ∷ 0 ∷ 7 ∷ 6 ∷ 6 ∷ []
+listing-example : imageOf (run 3 ((3 ∷ 1 ∷ 0 ∷ 0x12 ∷ replicate 27 0) ∷ freshImage 3 2 ∷ freshImage 3 3 ∷ []) ((1, 2) ∷ (2, 3) ∷ [])) 3 ≡ listing
 unfolding evaluated meet run
 listing-example = refl

@@ -10,7 +10,7 @@ use Rattle.causality.specs.Meetings as Meetings
 use Rattle.labels.specs.Lowest.{elem, seek, lowestFree, keep}
 use Rattle.labels.specs.Label.{named as namedLabels, samePair, between, labelAt, current, labels, label}
 use Rattle.labels.specs.Name.{partnerOf}
-use Rattle.image.specs.Examples.{evaluated as image-evaluated}
+use Rattle.image.specs.Examples.{evaluated as image-evaluated, listing}
 use Rattle.parlour.specs.Item.{Item, milking, meeting, counts, history}
 use Rattle.parlour.specs.History.{meetings, events, yieldAfter, yieldAt}
 use Rattle.parlour.specs.Table.{nameIn, named, tableAt, tableAfter, imageAfter}
@@ -21,12 +21,11 @@ unfolding takesPart last newest put maxima joined clocks latest latestIn inPast 
 evaluated = tt
 
 -- the listing, newest first, with a milking and a meeting that do not count: the image of head 3
-listing : List Item
-listing = meeting 2 3 (replicate 3 0) ∷ milking 1 1000 ∷ meeting 1 2 (replicate 3 0) ∷ meeting 3 1 (replicate 2 0) ∷ milking 1 0x12 ∷ []
+listingItems : List Item
+listingItems = meeting 2 3 (replicate 3 0) ∷ milking 1 1000 ∷ meeting 1 2 (replicate 3 0) ∷ meeting 3 1 (replicate 2 0) ∷ milking 1 0x12 ∷ []
 
-listing-image : imageAfter 3 (history 3 listing) 3
-    ≡ 3 ∷ 3 ∷ 0 ∷ 0 ∷ 2 ∷ 0 ∷ 1 ∷ 0 ∷ 0 ∷ 0 ∷ 2 ∷ 0 ∷ 3 ∷ 0 ∷ 2 ∷ 0 ∷ 2 ∷ 0 ∷ 3 ∷ 0 ∷ 2 ∷ 0 ∷ 0 ∷ 0x12 ∷ 0 ∷ 0 ∷ 0 ∷ 0 ∷ 7 ∷ 6 ∷ 6 ∷ []
-unfolding evaluated listing
+listing-image : imageAfter 3 (history 3 listingItems) 3 ≡ listing
+unfolding evaluated listingItems
 listing-image = refl
 
 -- N = 4, 1-2, 1-3, 2-4, then 3-4

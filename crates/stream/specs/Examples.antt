@@ -6,6 +6,7 @@ use mathlib.Core.List.{List, [], _∷_, _++_, flatMap, append-nil}
 use borrow.Author.Tests.{eq-eqb}
 use lib.Dec.{eqb}
 use lib.Seq.{append-snoc}
+use Rattle.image.specs.Examples.{listing}
 use Rattle.line.specs.Digits.{digitsOf}
 use Rattle.line.specs.Frame.{frameOf}
 use Rattle.line.specs.Parlour.{isOpen}
@@ -58,8 +59,7 @@ listing-example : Stream emptyState []
     (digitsOf (0x01 ∷ 0x03 ∷ []) ++ (newline ∷ digitsOf (0x02 ∷ 0x01 ∷ 0x00 ∷ 0x12 ∷ [])) ++ (newline ∷ digitsOf (0x03 ∷ 0x01 ∷ 0x02 ∷ [])) ++ (newline ∷ digitsOf (0x03 ∷ 0x02 ∷ 0x03 ∷ []))
     ++ (newline ∷ digitsOf (0x04 ∷ 0x03 ∷ [])) ++ (newline ∷ []))
     (digitsOf (0x00 ∷ []) ++ (newline ∷ digitsOf (0x00 ∷ [])) ++ (newline ∷ digitsOf (0x00 ∷ 0x00 ∷ 0x00 ∷ 0x00 ∷ 0x00 ∷ [])) ++ (newline ∷ digitsOf (0x00 ∷ 0x00 ∷ 0x01 ∷ 0x01 ∷ 0x00 ∷ []))
-    ++ (newline ∷ digitsOf (0x00 ∷ 0x03 ∷ 0x03 ∷ 0x00 ∷ 0x00 ∷ 0x02 ∷ 0x00 ∷ 0x01 ∷ 0x00 ∷ 0x00 ∷ 0x00 ∷ 0x02 ∷ 0x00 ∷ 0x03 ∷ 0x00 ∷ 0x02 ∷ 0x00
-    ∷ 0x02 ∷ 0x00 ∷ 0x03 ∷ 0x00 ∷ 0x02 ∷ 0x00 ∷ 0x00 ∷ 0x12 ∷ 0x00 ∷ 0x00 ∷ 0x00 ∷ 0x00 ∷ 0x07 ∷ 0x06 ∷ 0x06 ∷ [])) ++ (newline ∷ []))
+    ++ (newline ∷ digitsOf (0x00 ∷ listing)) ++ (newline ∷ []))
     (shown .state)
 unfolding evaluated noNewline opened milked met met-again shown flatMap
 listing-example =

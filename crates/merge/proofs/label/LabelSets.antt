@@ -1,17 +1,17 @@
 -- Sets of labels as numbers.
-use Prim.Native.Nat.{ℕ, zero, suc, _+_, _-_, _^_, _≤_, _<_}
+use Prim.Native.Nat.{ℕ, _+_, _-_, _^_, _≤_, _<_}
 use mathlib.Core.Path.{_≡_, refl, sym, ap, ap₂, _∙_}
 use mathlib.Core.Bool.{Bool, true, false, _&&_, _||_, cond}
 use native.Mathlib.Omega.{arith}
 use native.Mathlib.Decide.{ℕ-discrete, decLt}
-use borrow.Author.Tests.{eq-eqb, ne-eqb, eqb-true, lt-ltb, le-ltb, le-leb}
-use lib.Dec.{eqb, ltb}
-use lib.Bits.{bitOr, or-lt}
-use Rattle.image.specs.Stalls.{bits, has}
+use borrow.Author.Tests.{eq-eqb, ne-eqb, eqb-true, lt-ltb, le-ltb, le-leb, lt-leb}
+use lib.Dec.{eqb, leb, ltb}
+use lib.Bits.{bitOr}
 use Rattle.image.specs.Layout.{nameFrom}
 use Rattle.image.specs.declared.Name.the-variants.{Never, With}
-use Rattle.image.proofs.Bits.{has-ext, has-or, has-bits, bits-lt}
+use Rattle.image.proofs.Bits.{has-bits}
 use Rattle.image.proofs.Encoding.{bits-agree, bits-none}
+use Rattle.image.proofs.StallSets.{or-bits, single-bits}
 use Rattle.merge.specs.Label.{isMeeting}
 use Rattle.merge.specs.LabelSet.{labelSet, hasLabel}
 
@@ -27,21 +27,10 @@ has-label f k l =
     let e : k + 1 - 1 ≡ k = omega arith in
     has-bits 64 (λ s. f (s - 1)) (k + 1) (omega arith) ∙ ap₂ (λ b j. b && f j) (le-leb (k + 1) 64 (omega arith)) e
 
-pub set-lt : (f : ℕ → Bool) → labelSet f < 2 ^ 64
-unfolding labelSet
-set-lt f = bits-lt 64 (λ s. f (s - 1))
-
 -- the labels of one or the other
 pub set-or : (f g : ℕ → Bool) → bitOr (labelSet f) (labelSet g) ≡ labelSet (λ k. f k || g k)
-set-or f g =
-    has-ext 64 (bitOr (labelSet f) (labelSet g)) (labelSet (λ k. f k || g k)) (or-lt 64 (labelSet f) (labelSet g) (set-lt f) (set-lt g)) (set-lt (λ k. f k || g k)) each
-  where
-    each : (s : ℕ) → 1 ≤ s → s ≤ 64 → has (bitOr (labelSet f) (labelSet g)) s ≡ has (labelSet (λ k. f k || g k)) s
-    each s a b =
-        let e : s ≡ s - 1 + 1 = omega arith in
-        has-or (labelSet f) (labelSet g) s a
-        ∙ ap₂ _||_ (ap (has (labelSet f)) e ∙ has-label f (s - 1) (omega arith)) (ap (has (labelSet g)) e ∙ has-label g (s - 1) (omega arith))
-        ∙ sym (ap (has (labelSet (λ k. f k || g k))) e ∙ has-label (λ k. f k || g k) (s - 1) (omega arith))
+unfolding labelSet
+set-or f g = or-bits 64 (λ s. f (s - 1)) (λ s. g (s - 1))
 
 -- none
 pub set-none : 0 ≡ labelSet (λ k. false)
@@ -49,23 +38,24 @@ unfolding labelSet
 set-none = sym (bits-none 64)
 
 -- one label
-bits-one : (m l : ℕ) → bits m (λ s. eqb l (s - 1)) ≡ cond (ltb l m) (2 ^ l) 0
-unfolding bits
-bits-one zero l = sym (ap (λ b. cond b (2 ^ l) 0) (le-ltb l 0 (omega arith)))
-bits-one (suc m) l =
-    let e : suc m - 1 ≡ m = omega arith in
-    ap₂ (λ x j. x + cond (eqb l j) (2 ^ m) 0) (bits-one m l) e
-    ∙ elim (ℕ-discrete l m) [
-      | yes i ↦ rw (eq-eqb l m i, le-ltb l m (omega arith), lt-ltb l (suc m) (omega arith)) (ap (λ j. 0 + 2 ^ j) (sym i) ∙ (omega arith))
-      | no i ↦ elim (decLt l m) [
-        | yes p ↦ rw (ne-eqb l m i, lt-ltb l m p, lt-ltb l (suc m) (omega arith)) (omega arith)
-        | no p ↦ rw (ne-eqb l m i, le-ltb l m (omega arith), le-ltb l (suc m) (omega arith))
-      ]
-    ]
-
 pub set-one : (l : ℕ) → labelSet (eqb l) ≡ cond (ltb l 64) (2 ^ l) 0
 unfolding labelSet
-set-one l = bits-one 64 l
+set-one l =
+    bits-agree 64 (λ s. eqb l (s - 1)) (λ s. eqb s (l + 1)) label-stall ∙ single-bits 64 (l + 1) (omega arith) ∙ ap₂ (λ t k. cond t (2 ^ k) 0) within (omega arith)
+  where
+    label-stall : (s : ℕ) → 1 ≤ s → s ≤ 64 → eqb l (s - 1) ≡ eqb s (l + 1)
+    label-stall s a b =
+        elim (ℕ-discrete s (l + 1)) [
+          | yes i ↦ eq-eqb l (s - 1) (omega arith) ∙ sym (eq-eqb s (l + 1) i)
+          | no i ↦ ne-eqb l (s - 1) (λ j. i (omega arith)) ∙ sym (ne-eqb s (l + 1) i)
+        ]
+
+    within : leb (l + 1) 64 ≡ ltb l 64
+    within =
+        elim (decLt l 64) [
+          | yes i ↦ le-leb (l + 1) 64 (omega arith) ∙ sym (lt-ltb l 64 i)
+          | no i ↦ lt-leb (l + 1) 64 (omega arith) ∙ sym (le-ltb l 64 (omega arith))
+        ]
 
 -- the label of a name, if the name is the meeting with a stall
 meeting-test : (stall partner label k : ℕ) → 1 ≤ stall → isMeeting stall k (nameFrom partner label) ≡ (eqb partner stall && eqb label k)

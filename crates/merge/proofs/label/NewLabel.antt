@@ -3,7 +3,7 @@ use Prim.Native.Nat.{ℕ, zero, suc, _≤_, _<_}
 use mathlib.Core.Path.{_≡_, refl, sym, ap, _∙_}
 use mathlib.Core.Bool.{Bool, true, false, _||_}
 use native.Mathlib.Omega.{arith}
-use native.Mathlib.Decide.{decLt}
+use native.Mathlib.Decide.{decLt, ℕ-discrete}
 use lib.Bits.{bitOr}
 use Rattle.image.specs.Stalls.{some}
 use Rattle.image.specs.Layout.{labelLimit}
@@ -44,10 +44,14 @@ module _ (n p : ℕ) (a : Table) (q : ℕ) (b : Table) where
       ]
 
   -- more turns find the same
-  pub newLabel-is : (t : ℕ) (u : ℕ → Bool) → pairNames n < t → ((k : ℕ) → k < t → u k ≡ labelUsed n p a q b k) → lowestFrom t 0 u ≡ newLabel n p a q b
+  pub newLabel-is : (t : ℕ) (u : ℕ → Bool) → pairNames n ≤ t → ((k : ℕ) → k < t → u k ≡ labelUsed n p a q b k) → lowestFrom t 0 u ≡ newLabel n p a q b
+  unfolding newLabel
   newLabel-is t u l e =
       lowest-agree t 0 u (labelUsed n p a q b) (λ j i m. e j (omega arith))
-      ∙ lowest-is t 0 (newLabel n p a q b) (labelUsed n p a q b) (omega arith) (omega (arith, newLabel-most)) (λ j i m. newLabel-lowest j m) newLabel-free
+      ∙ elim (ℕ-discrete (pairNames n) t) [
+        | yes i ↦ ap (λ k. lowestFrom k 0 (labelUsed n p a q b)) (sym i)
+        | no i ↦ lowest-is t 0 (newLabel n p a q b) (labelUsed n p a q b) (omega arith) (omega (arith, newLabel-most)) (λ j i m. newLabel-lowest j m) newLabel-free
+      ]
 
 -- the labels of both tables
 shuffle : (a b c d : Bool) → ((a || b) || (c || d)) ≡ ((a || c) || (b || d))
@@ -61,7 +65,7 @@ unfolding some
 some-or zero f g = refl
 some-or (suc n) f g = shuffle (f (suc n)) (some n f) (g (suc n)) (some n g) ∙ ap (λ b. (f (suc n) || g (suc n)) || b) (some-or n f g)
 
-pub label-chosen : (n p : ℕ) (a : Table) (q : ℕ) (b : Table) → pairNames n < 64
+pub label-chosen : (n p : ℕ) (a : Table) (q : ℕ) (b : Table) → pairNames n ≤ 64
     → lowestFrom 64 0 (hasLabel (bitOr (labelSet (λ k. some n (rowHas p q a k))) (labelSet (λ k. some n (rowHas p q b k))))) ≡ newLabel n p a q b
 unfolding labelUsed
 label-chosen n p a q b l =
