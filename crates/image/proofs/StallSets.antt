@@ -9,7 +9,7 @@ use borrow.Author.Tests.{eq-eqb, ne-eqb, le-leb, lt-leb}
 use lib.Bits.{bitAnd, bitOr, and-le-l, or-lt}
 use lib.Dec.{eqb, leb}
 use lib.Pow.{pow-pos}
-use Rattle.image.specs.Stalls.{some, bits, has, bitOf}
+use Rattle.image.specs.Stalls.{some, bits, has, without, bitOf}
 use Rattle.image.proofs.Bits.{has-ext, has-and, has-or, has-zero, has-bits, bits-lt, bitOf-is, Found, at, nowhere, some-found}
 use Rattle.image.proofs.Encoding.{bits-agree, bits-none}
 
@@ -39,7 +39,7 @@ parted (suc n) f g = go (f (suc n)) (g (suc n)) (parted n f g)
     go true false e = omega arith
     go false y e = omega arith
 
-pub without-bits : (n : ℕ) (f g : ℕ → Bool) → bits n f - bitAnd (bits n f) (bits n g) ≡ bits n (λ s. f s && not (g s))
+pub without-bits : (n : ℕ) (f g : ℕ → Bool) → without (bits n f) (bits n g) ≡ bits n (λ s. f s && not (g s))
 without-bits n f g = ap (λ x. bits n f - x) (and-bits n f g) ∙ omega (arith, parted n f g)
 
 pub all-bits : (n : ℕ) → 2 ^ n - 1 ≡ bits n (λ s. true)

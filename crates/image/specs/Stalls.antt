@@ -2,6 +2,7 @@
 use Prim.Native.Nat.{ℕ, zero, suc, _+_, _-_, _/_, _%_, _^_}
 use mathlib.Core.Bool.{Bool, false, _&&_, _||_, cond}
 use mathlib.Core.List.{List, [], _++_}
+use lib.Bits.{bitAnd}
 use lib.Dec.{leb, eqb}
 
 -- some of 1 to n passes the test
@@ -22,6 +23,10 @@ bits (suc n) f = bits n f + cond (f (suc n)) (2 ^ n) 0
 -- the number has the bit of stall s
 unfoldable pub has : ℕ → ℕ → Bool
 has b s = eqb (b / 2 ^ (s - 1) % 2) 1
+
+-- what a set has and another has not
+abbrev pub without : ℕ → ℕ → ℕ
+without a b = a - bitAnd a b
 
 -- the bit of stall s by itself; nothing where there is no such bit in 64
 unfoldable pub bitOf : ℕ → ℕ

@@ -1,12 +1,12 @@
 -- Sets of stalls that the order marks are put together from, for the functions that do it. `Merged` says what the marks are.
-use Prim.Native.Nat.{ℕ, _-_}
+use Prim.Native.Nat.{ℕ}
 use mathlib.Core.Path.{_≡_}
 use mathlib.Core.Bool.{_&&_, not, cond}
 use mathlib.Core.List.{List}
 use lib.Bits.{bitAnd, bitOr}
 use lib.Dec.{eqb}
 use Rattle.image.specs.Layout.{largest}
-use Rattle.image.specs.Stalls.{bits, has}
+use Rattle.image.specs.Stalls.{bits, has, without}
 use Rattle.image.specs.Encode.{Table, tableOf}
 use Rattle.image.specs.Row.{isNever}
 use Rattle.merge.specs.Verdict.{verdict}
@@ -30,8 +30,8 @@ apart n p q = bits n (λ s. not (isMet p q s))
 -- the same by the sets of the verdicts
 pub record Sorts (n p q : ℕ) (d : Decided) (x : Sets) : Type 0 where
   pub pair-is : x .pair ≡ bits n (isMet p q)
-  pub first-is : x .first ≡ apart n p q - bitAnd (apart n p q) (d .two)
-  pub second-is : x .second ≡ apart n p q - bitAnd (apart n p q) (d .one)
+  pub first-is : x .first ≡ without (apart n p q) (d .two)
+  pub second-is : x .second ≡ without (apart n p q) (d .one)
   pub alone-is : x .alone ≡ bitAnd (apart n p q) (d .two)
   pub heard-is : x .heard ≡ bitOr (x .pair) (d .heard)
 

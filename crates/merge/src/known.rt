@@ -1,11 +1,11 @@
 // What two heads that meet know of each other's latests, and the verdicts, as sets of stalls.
 ghost use mathlib.Core.Path.{_≡_};
-ghost use Prim.Native.Nat.{_+_, _-_, _*_, _≤_, _<_};
-ghost use mathlib.Core.Bool.{true, not};
+ghost use Prim.Native.Nat.{_+_, _*_, _≤_, _<_};
+ghost use mathlib.Core.Bool.{not};
 ghost use lib.Bits.{bitAnd, bitOr};
 ghost use lib.Dec.{eqb};
 ghost use lib.ListN.{length};
-ghost use Rattle.image.specs.Stalls.{bits};
+ghost use Rattle.image.specs.Stalls.{bits, without};
 ghost use Rattle.image.specs.Layout.{largest, orderAt};
 ghost use Rattle.image.specs.Encode.{tableOf};
 ghost use Rattle.image.specs.Frame.{Sized, Framed};
@@ -16,11 +16,12 @@ use crate::Decided;
 use crate::Parties;
 use crate::Seen;
 use crate::View;
+use crate::stalls::all_stalls;
+use crate::stalls::without;
 use image::Entry;
 use image::Name;
 use image::bytes::row_place;
 use image::bytes::wide;
-use image::marks::bit_of;
 use image::marks::pick;
 use image::orders::order_at;
 use image::orders::order_width;
@@ -75,17 +76,17 @@ fn column(mine: &[u8], a: usize, theirs: &[u8], b: usize, row: usize, n: u8, c: 
         × (r .heard ≡ not (isNever (nameIn (now (mine .entry)) a)))
         × (r .same ≡ sameName (nameIn (now (mine .entry)) a) (nameIn (now (theirs .entry)) b)) ⌝ }
 {
-    let e = entry_at(mine, a);
-    let f = entry_at(theirs, b);
-    let x = e.name;
-    let y = f.name;
-    let d = partner_of(x);
-    let k = label_of(x);
-    let g = entry_at(theirs, row + across(n, d));
-    let z = g.name;
-    let heard = !(d == 0);
-    let same = (d == partner_of(y)) & (k == label_of(y));
-    let crossed = (d <= n) & ((c == partner_of(z)) & (k == label_of(z)));
+    let own = entry_at(mine, a);
+    let here = entry_at(theirs, b);
+    let name = own.name;
+    let other = here.name;
+    let partner = partner_of(name);
+    let label = label_of(name);
+    let there = entry_at(theirs, row + across(n, partner));
+    let crossing = there.name;
+    let heard = !(partner == 0);
+    let same = (partner == partner_of(other)) & (label == label_of(other));
+    let crossed = (partner <= n) & ((c == partner_of(crossing)) & (label == label_of(crossing)));
     Seen {
         common: heard & (same | crossed),
         heard,
@@ -141,28 +142,13 @@ fn marked(image: &[u8], n: usize, set: u64) -> u64
     out
 }
 
-// What a set has and another has not.
-pub(crate) fn without(a: u64, b: u64) -> u64
-    ensures { λ r. ⌜ r ≡ a - bitAnd a b ⌝ }
-{
-    a - (a & b)
-}
-
-// The set of all stalls.
-pub(crate) fn all_stalls(n: u8) -> u64
-    requires { ⌜ n ≤ largest ⌝ }
-    ensures { λ r. ⌜ r ≡ bits n (λ s. true) ⌝ }
-{
-    bit_of(n + 1) - 1
-}
-
 // The verdicts, by whose latests are known: the first's to the second, and the second's to the first.
 fn decided(all: u64, first: u64, second: u64, x: View, y: View) -> Decided
     ensures { λ r.
-        ⌜ (r .one ≡ second - bitAnd second first)
-        × (r .two ≡ first - bitAnd first second)
-        × (r .nine ≡ bitOr (all - bitAnd all (bitOr first second)) (bitAnd first second - bitAnd (bitAnd first second) (x .same)))
-        × (r .heard ≡ bitOr (x .heard - bitAnd (x .heard) (r .two)) (bitAnd (y .heard) (r .two))) ⌝ }
+        ⌜ (r .one ≡ without second first)
+        × (r .two ≡ without first second)
+        × (r .nine ≡ bitOr (without all (bitOr first second)) (without (bitAnd first second) (x .same)))
+        × (r .heard ≡ bitOr (without (x .heard) (r .two)) (bitAnd (y .heard) (r .two))) ⌝ }
 {
     let two = without(first, second);
     Decided {

@@ -5,6 +5,7 @@ pub mod meeting;
 pub mod orders;
 pub mod pairs;
 pub mod rows;
+pub mod stalls;
 pub mod write;
 pub mod yields;
 

@@ -1,12 +1,13 @@
 // Rows of pairs of both heads: two bytes a stall, from the head that the stall comes from.
 ghost use mathlib.Core.Path.{_≡_};
-ghost use Prim.Native.Nat.{suc, _+_, _*_, _≤_, _<_};
+ghost use Prim.Native.Nat.{_+_, _*_, _≤_, _<_};
 ghost use mathlib.Core.Bool.{cond};
 ghost use lib.Dec.{eqb};
 ghost use lib.ListN.{length};
 ghost use Rattle.image.specs.Layout.{largest};
 ghost use Rattle.image.specs.Stalls.{each, has};
 ghost use Rattle.merge.specs.Body.{pairAt, pairBytes, padded, mixedPair};
+use crate::stalls::has_stall;
 use image::ROW;
 
 // Two bytes of an image: a name, or a yield.
@@ -54,14 +55,6 @@ fn pick(first: &[u8], a: Side, second: &[u8], b: Side, c: usize, d: usize, their
     let taken = either(theirs, y, x);
     let other = either(c == b.stall, b.own, taken);
     either(c == a.stall, a.own, other)
-}
-
-// A set has the stall behind c others.
-pub(crate) fn has_stall(set: u64, c: usize) -> bool
-    requires { ⌜ c < largest ⌝ }
-    ensures { λ r. ⌜ r ≡ has set (suc c) ⌝ }
-{
-    (set >> c) % 2 == 1
 }
 
 // The pairs of n stalls, those of a set from the second head.

@@ -1,11 +1,11 @@
 -- The verdicts that the code finds as sets are those of the tables.
-use Prim.Native.Nat.{ℕ, _-_}
+use Prim.Native.Nat.{ℕ}
 use mathlib.Core.Path.{_≡_, refl, ap, ap₂, _∙_}
 use mathlib.Core.List.{List}
 use mathlib.Core.Bool.{Bool, true, false, _&&_, _||_, not, cond, Bool·not-not}
 use lib.Bits.{bitAnd, bitOr}
 use lib.Dec.{eqb}
-use Rattle.image.specs.Stalls.{bits, has}
+use Rattle.image.specs.Stalls.{bits, has, without}
 use Rattle.image.specs.Layout.{rowPlace, orderAt, nameAt, markAt}
 use Rattle.image.specs.Encode.{Table, tableOf}
 use Rattle.image.specs.Row.{isNever}
@@ -23,7 +23,7 @@ use Rattle.merge.specs.Views.{rowName, Views, Decides}
 
 pub known-set : (n : ℕ) (mine theirs : ℕ → Name) (order : ℕ → ℕ) (x : View) → Views n mine theirs n x → (all marked : ℕ)
     → all ≡ bits n (λ s. true) → marked ≡ bits n (λ r. not (eqb (bitAnd (order r) (x .common)) 0))
-    → bitOr (all - bitAnd all (x .heard)) marked ≡ bits n (λ r. known n mine (has (order r)) theirs r)
+    → bitOr (without all (x .heard)) marked ≡ bits n (λ r. known n mine (has (order r)) theirs r)
 unfolding known
 known-set n mine theirs order x w all marked e i =
     rw (e, i, w .heard-is, w .common-is, without-bits n (λ s. true) (λ c. not (isNever (mine c))))
@@ -77,9 +77,9 @@ module _ (n p : ℕ) (a : Table) (q : ℕ) (b : Table) where
 
   pub decides : (x y : View) → Views n (a .names p) (b .names q) n x → Views n (b .names q) (a .names p) n y → (all first second : ℕ)
       → all ≡ bits n (λ s. true) → first ≡ bits n firstKnown → second ≡ bits n secondKnown → (d : Decided)
-      → d .one ≡ second - bitAnd second first → d .two ≡ first - bitAnd first second
-      → d .nine ≡ bitOr (all - bitAnd all (bitOr first second)) (bitAnd first second - bitAnd (bitAnd first second) (x .same))
-      → d .heard ≡ bitOr (x .heard - bitAnd (x .heard) (d .two)) (bitAnd (y .heard) (d .two))
+      → d .one ≡ without second first → d .two ≡ without first second
+      → d .nine ≡ bitOr (without all (bitOr first second)) (without (bitAnd first second) (x .same))
+      → d .heard ≡ bitOr (without (x .heard) (d .two)) (bitAnd (y .heard) (d .two))
       → Decides n p a q b d
   unfolding verdict
   decides x y v w all first second e f g d one two nine heard =
@@ -108,12 +108,12 @@ module _ (n p : ℕ) (a : Table) (q : ℕ) (b : Table) where
 pub verdict-sets : (s u : List ℕ) (n m p q i j : ℕ) (x y : View) → m ≡ n → i ≡ rowPlace n p → j ≡ rowPlace n q
     → Views n (rowName s i) (rowName u j) n x → Views n (rowName u j) (rowName s i) n y
     → (all v e w f : ℕ) → all ≡ bits n (λ r. true)
-    → v ≡ all - bitAnd all (x .heard) → e ≡ bits m (λ r. not (eqb (bitAnd (orderAt s m r) (x .common)) 0))
-    → w ≡ all - bitAnd all (y .heard) → f ≡ bits m (λ r. not (eqb (bitAnd (orderAt u m r) (y .common)) 0))
+    → v ≡ without all (x .heard) → e ≡ bits m (λ r. not (eqb (bitAnd (orderAt s m r) (x .common)) 0))
+    → w ≡ without all (y .heard) → f ≡ bits m (λ r. not (eqb (bitAnd (orderAt u m r) (y .common)) 0))
     → (d : Decided) → let first = bitOr v e in let second = bitOr w f in
-    d .one ≡ second - bitAnd second first → d .two ≡ first - bitAnd first second
-    → d .nine ≡ bitOr (all - bitAnd all (bitOr first second)) (bitAnd first second - bitAnd (bitAnd first second) (x .same))
-    → d .heard ≡ bitOr (x .heard - bitAnd (x .heard) (d .two)) (bitAnd (y .heard) (d .two))
+    d .one ≡ without second first → d .two ≡ without first second
+    → d .nine ≡ bitOr (without all (bitOr first second)) (without (bitAnd first second) (x .same))
+    → d .heard ≡ bitOr (without (x .heard) (d .two)) (bitAnd (y .heard) (d .two))
     → Decides n p (tableOf s n) q (tableOf u n) d
 unfolding tableOf nameAt markAt
 verdict-sets s u n m p q i j x y m-is i-is j-is a b all v e w f all-is v-is e-is w-is f-is d =

@@ -1,5 +1,5 @@
 -- The order marks that are put together from sets are those of the merged table.
-use Prim.Native.Nat.{ℕ, _-_, _^_, _≤_, _<_}
+use Prim.Native.Nat.{ℕ, _^_, _≤_, _<_}
 use mathlib.Core.Path.{_≡_, refl, sym, ap, ap₂, _∙_}
 use mathlib.Core.Bool.{Bool, true, false, _&&_, _||_, not, cond, or-false, and-comm, false≢true}
 use native.Mathlib.Omega.{arith}
@@ -7,7 +7,7 @@ use borrow.Author.Tests.{eqb-true}
 use lib.Bits.{bitAnd, bitOr, and-le-l, or-lt}
 use lib.Dec.{eqb}
 use lib.Pow.{pow-pos}
-use Rattle.image.specs.Stalls.{bits, has, bitOf}
+use Rattle.image.specs.Stalls.{bits, has, without, bitOf}
 use Rattle.image.specs.Layout.{largest}
 use Rattle.image.specs.Encode.{Table}
 use Rattle.image.specs.Row.{isNever}
@@ -178,7 +178,7 @@ pub pair-bits : (n p q : ℕ) → (n ≤ largest) × (1 ≤ p) × (p ≤ n) × (
 pair-bits n p q w e f =
     rw (e, f, one-bits n p (w .1) (w .2) (omega (arith, w .0)), one-bits n q (w .3) (w .4) (omega (arith, w .0))) (or-bits n (λ s. eqb s p) (λ s. eqb s q))
 
-pub apart-bits : (n p q : ℕ) {all pair others : ℕ} → all ≡ bits n (λ s. true) → pair ≡ bits n (isMet p q) → others ≡ all - bitAnd all pair → others ≡ apart n p q
+pub apart-bits : (n p q : ℕ) {all pair others : ℕ} → all ≡ bits n (λ s. true) → pair ≡ bits n (isMet p q) → others ≡ without all pair → others ≡ apart n p q
 apart-bits n p q e f g = g ∙ rw (e, f) (without-bits n (λ s. true) (isMet p q))
 
 pub sorted-is : (n p : ℕ) (a : Table) (q : ℕ) (b : Table) (d : Decided) (x : Sets) → Decides n p a q b d → Sorts n p q d x → Sorted n p a q b x

@@ -1,7 +1,7 @@
 -- The stalls by who has them.
-use Prim.Native.Nat.{_-_}
 use mathlib.Core.Path.{refl, ap, _∙_}
 use lib.Bits.{bitAnd}
+use Rattle.image.specs.Stalls.{without}
 use Rattle.merge.proofs.orders.Marks.{pair-bits, apart-bits}
 use Rattle.merge.proofs.orders.sorted.Statement.{statement}
 use Rattle.merge.proofs.orders.sorted.Tie as tie
@@ -24,8 +24,8 @@ sorted-spec =
     let others = apart-bits (x .n) (x .p) (x .q) (c .before .before .before .before .before .all-stalls .ensures) pair (c .before .before .before .before .without .ensures) in
     record {
       pair-is = pair;
-      first-is = c .before .before .before .without2 .ensures ∙ ap (λ o. o - bitAnd o (d .two)) others;
-      second-is = c .before .before .without3 .ensures ∙ ap (λ o. o - bitAnd o (d .one)) others;
+      first-is = c .before .before .before .without2 .ensures ∙ ap (λ o. without o (d .two)) others;
+      second-is = c .before .before .without3 .ensures ∙ ap (λ o. without o (d .one)) others;
       alone-is = ap (λ o. bitAnd o (d .two)) others;
       heard-is = refl;
     }))

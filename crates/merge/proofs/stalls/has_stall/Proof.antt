@@ -5,8 +5,8 @@ use borrow.Author.Needs.{needs}
 use Prim.Native.Nat.{ℕ, suc, _-_, _/_, _%_, _^_}
 use lib.Dec.{eqb}
 use Rattle.image.specs.Stalls.{has}
-use Rattle.merge.proofs.pairs.has_stall.Statement.{statement}
-use Rattle.merge.proofs.pairs.has_stall.Tie as tie
+use Rattle.merge.proofs.stalls.has_stall.Statement.{statement}
+use Rattle.merge.proofs.stalls.has_stall.Tie as tie
 
 down : (set c : ℕ) → eqb (set / 2 ^ c % 2) 1 ≡ has set (suc c)
 unfolding has

@@ -5,8 +5,8 @@ use native.Mathlib.Omega.{arith}
 use borrow.Author.Needs.{needs}
 use lib.Pow.{pow-pos}
 use Rattle.image.proofs.StallSets.{all-bits, next-bit}
-use Rattle.merge.proofs.known.all_stalls.Statement.{statement}
-use Rattle.merge.proofs.known.all_stalls.Tie as tie
+use Rattle.merge.proofs.stalls.all_stalls.Statement.{statement}
+use Rattle.merge.proofs.stalls.all_stalls.Tie as tie
 
 pub all-stalls-spec : {M : Type 1} → statement M
 all-stalls-spec =

@@ -1,8 +1,8 @@
 -- What a set has and another has not.
 use mathlib.Core.Path.{refl}
 use lib.Bits.{and-le-l}
-use Rattle.merge.proofs.known.without.Statement.{statement}
-use Rattle.merge.proofs.known.without.Tie as tie
+use Rattle.merge.proofs.stalls.without.Statement.{statement}
+use Rattle.merge.proofs.stalls.without.Tie as tie
 
 pub without-spec : {M : Type 1} → statement M
 without-spec =
