@@ -17,10 +17,26 @@ use Rattle.image.proofs.Encoding.{bits-agree, bits-none}
 pub has-in : (n : ℕ) (f : ℕ → Bool) (s : ℕ) → 1 ≤ s → s ≤ n → has (bits n f) s ≡ f s
 has-in n f s a b = has-bits n f s a ∙ ap (λ t. t && f s) (le-leb s n b)
 
+pub has-at : (n : ℕ) (f : ℕ → Bool) {x : ℕ} → x ≡ bits n f → (s : ℕ) → 1 ≤ s → s ≤ n → has x s ≡ f s
+has-at n f e s a b = ap (λ k. has k s) e ∙ has-in n f s a b
+
+-- a set, or nothing; one set or another
+pub pick-bits : (t : Bool) (n : ℕ) (f : ℕ → Bool) → cond t (bits n f) 0 ≡ bits n (λ s. t && f s)
+pick-bits true n f = refl
+pick-bits false n f = sym (bits-none n)
+
+pub choice-bits : (t : Bool) (n : ℕ) (f g : ℕ → Bool) → cond t (bits n f) (bits n g) ≡ bits n (λ s. cond t (f s) (g s))
+choice-bits true n f g = refl
+choice-bits false n f g = refl
+
+-- what a set has in common with any number
+pub mask-bits : (n : ℕ) (f : ℕ → Bool) (x : ℕ) → bitAnd (bits n f) x ≡ bits n (λ s. f s && has x s)
+mask-bits n f x =
+    has-ext n _ _ (omega (arith, and-le-l (bits n f) x, bits-lt n f)) (bits-lt n _)
+    (λ s a b. has-and (bits n f) x s a ∙ ap (λ t. t && has x s) (has-in n f s a b) ∙ sym (has-in n (λ s. f s && has x s) s a b))
+
 pub and-bits : (n : ℕ) (f g : ℕ → Bool) → bitAnd (bits n f) (bits n g) ≡ bits n (λ s. f s && g s)
-and-bits n f g =
-    has-ext n _ _ (omega (arith, and-le-l (bits n f) (bits n g), bits-lt n f)) (bits-lt n _)
-    (λ s a b. has-and (bits n f) (bits n g) s a ∙ ap₂ _&&_ (has-in n f s a b) (has-in n g s a b) ∙ sym (has-in n (λ s. f s && g s) s a b))
+and-bits n f g = mask-bits n f (bits n g) ∙ bits-agree n _ _ (λ s a b. ap (λ t. f s && t) (has-in n g s a b))
 
 pub or-bits : (n : ℕ) (f g : ℕ → Bool) → bitOr (bits n f) (bits n g) ≡ bits n (λ s. f s || g s)
 or-bits n f g =

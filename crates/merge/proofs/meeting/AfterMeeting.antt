@@ -14,7 +14,7 @@ use Rattle.image.specs.declared.Name.{Name}
 use Rattle.image.specs.declared.Name.the-variants.{Never, With}
 use Rattle.image.proofs.Has.{Has, has-part, has-first, each-has, length-each}
 use Rattle.image.proofs.Places.{row-within}
-use Rattle.image.proofs.StallSets.{has-in}
+use Rattle.image.proofs.StallSets.{has-at}
 use Rattle.image.proofs.Tables.{none-at}
 use Rattle.image.proofs.Encoding.{Shows, name-wide, encode-shows}
 use Rattle.image.proofs.Accepted.{Accepted, accepted-encode}
@@ -58,7 +58,7 @@ verdicts-in n p a q b d out w e o =
     ∙ take-each n out (verdict n p a q b) (omega (arith, o .long))
     (λ r i j.
     o .right r i j
-    ∙ rw (w .one-is, w .two-is, has-in n (λ r. eqb (verdict n p a q b r) 1) r i j, has-in n (λ r. eqb (verdict n p a q b r) 2) r i j)
+    ∙ rw (has-at n _ (w .one-is) r i j, has-at n _ (w .two-is) r i j)
     (verdict-byte (firstKnown n p a q b r) (secondKnown n p a q b r) (same n p a q b r) (none-at n _ e r i j)))
 
 -- what holds of both truth values

@@ -1,5 +1,5 @@
 -- A meeting of two accepted images, as a call: refused with 9, or done.
-use Prim.Native.Nat.{ℕ, _≤_, _<_}
+use Prim.Native.Nat.{ℕ, _<_}
 use mathlib.Core.Path.{_≡_, sym, ap, _∙_}
 use mathlib.Core.Bool.{false, not, cond}
 use mathlib.Core.List.{List}
@@ -8,10 +8,10 @@ use lib.Dec.{eqb}
 use lib.ListN.{length, getD}
 use Rattle.image.specs.Stalls.{has}
 use Rattle.image.specs.Encode.{tableOf}
-use Rattle.image.proofs.StallSets.{has-in, any-test}
+use Rattle.image.proofs.StallSets.{has-at, any-test}
 use Rattle.image.proofs.Accepted.{Accepted}
 use Rattle.merge.specs.declared.Decided.{Decided}
-use Rattle.merge.specs.Verdict.{verdict, undecided}
+use Rattle.merge.specs.Verdict.{undecided}
 use Rattle.merge.specs.Label.{newLabel}
 use Rattle.merge.specs.ByStall.{ByStall}
 use Rattle.merge.specs.Views.{Decides}
@@ -37,7 +37,7 @@ module _ (s u buffer : List ℕ) (n p q : ℕ) (d : Decided) (w : Decides n p (t
   unfolding metTogether
   met-done e a b s-bytes u-bytes long k x y v k-is x-is y-is v-is =
       let decided : undecided n p (tableOf s n) q (tableOf u n) ≡ false = sym nine-is ∙ ap not (eq-eqb (d .nine) 0 e) in
-      let t-is : (r : ℕ) → 1 ≤ r → r ≤ n → has (d .two) r ≡ eqb (verdict n p (tableOf s n) q (tableOf u n) r) 2 = λ r i j. ap (λ l. has l r) (w .two-is) ∙ has-in n (λ r. eqb (verdict n p (tableOf s n) q (tableOf u n) r) 2) r i j in
+      let t-is = has-at n _ (w .two-is) in
       let f = x-is ∙ first-after s u n p q a b s-bytes u-bytes k k-is (has (d .two)) t-is in
       let g = y-is ∙ second-after s u n p q a b s-bytes u-bytes k k-is (has (d .two)) t-is in
       let h = verdicts-in n p (tableOf s n) q (tableOf u n) d v w decided (rw long at v-is) in

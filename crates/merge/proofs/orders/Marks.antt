@@ -1,19 +1,17 @@
 -- The order marks that are put together from sets are those of the merged table.
-use Prim.Native.Nat.{ℕ, _^_, _≤_, _<_}
+use Prim.Native.Nat.{ℕ, _≤_}
 use mathlib.Core.Path.{_≡_, refl, sym, ap, ap₂, _∙_}
 use mathlib.Core.Bool.{Bool, true, false, _&&_, _||_, not, cond, or-false, and-comm, false≢true}
 use native.Mathlib.Omega.{arith}
 use borrow.Author.Tests.{eqb-true}
-use lib.Bits.{bitAnd, bitOr, and-le-l, or-lt}
+use lib.Bits.{bitAnd, bitOr}
 use lib.Dec.{eqb}
-use lib.Pow.{pow-pos}
 use Rattle.image.specs.Stalls.{bits, has, without, bitOf}
 use Rattle.image.specs.Layout.{largest}
 use Rattle.image.specs.Encode.{Table}
 use Rattle.image.specs.Row.{isNever}
-use Rattle.image.proofs.Bits.{has-ext, has-and, has-or, has-zero, bits-lt}
 use Rattle.image.proofs.Encoding.{bits-agree}
-use Rattle.image.proofs.StallSets.{has-in, and-bits, or-bits, without-bits, one-bits}
+use Rattle.image.proofs.StallSets.{has-at, pick-bits, choice-bits, mask-bits, and-bits, or-bits, without-bits, one-bits}
 use Rattle.image.specs.declared.Name.the-variants.{With}
 use Rattle.merge.specs.Label.{newLabel}
 use Rattle.merge.specs.declared.Decided.{Decided}
@@ -48,21 +46,6 @@ marks-test false false false false true true a b d v w = absurd (w refl refl)
 marks-test false false false false true false a b d v w = refl
 marks-test false false false false false k a b d v w = refl
 
-has-cond : (t : Bool) (x s : ℕ) → has (cond t x 0) s ≡ (t && has x s)
-has-cond true x s = refl
-has-cond false x s = has-zero s
-
-has-choice : (t : Bool) (x y s : ℕ) → has (cond t x y) s ≡ cond t (has x s) (has y s)
-has-choice true x y s = refl
-has-choice false x y s = refl
-
-cond-lt : (t : Bool) (x y n : ℕ) → x < n → y < n → cond t x y < n
-cond-lt true x y n a b = a
-cond-lt false x y n a b = b
-
-and-small : (x y n : ℕ) → x < n → bitAnd x y < n
-and-small x y n l = omega (arith, and-le-l x y)
-
 not-both : (x : ℕ) → eqb x 2 ≡ true → eqb x 1 ≡ true → ⊥
 not-both x e f = omega (arith, eqb-true x 2 e, eqb-true x 1 f)
 
@@ -73,69 +56,40 @@ module _ (n p : ℕ) (a : Table) (q : ℕ) (b : Table) (x : Sets) (w : Sorted n 
   abbrev one : ℕ → Bool
   one s = eqb (verdict n p a q b s) 1
 
-  first-at : (s : ℕ) → 1 ≤ s → s ≤ n → has (x .first) s ≡ (not (isMet p q s) && not (two s))
-  first-at s c d = ap (λ k. has k s) (w .first-is) ∙ has-in n _ s c d
+  abbrev inFirst : ℕ → Bool
+  inFirst s = not (isMet p q s) && not (two s)
 
-  second-at : (s : ℕ) → 1 ≤ s → s ≤ n → has (x .second) s ≡ (not (isMet p q s) && not (one s))
-  second-at s c d = ap (λ k. has k s) (w .second-is) ∙ has-in n _ s c d
+  abbrev inSecond : ℕ → Bool
+  inSecond s = not (isMet p q s) && not (one s)
 
-  alone-at : (s : ℕ) → 1 ≤ s → s ≤ n → has (x .alone) s ≡ (not (isMet p q s) && two s)
-  alone-at s c d = ap (λ k. has k s) (w .alone-is) ∙ has-in n _ s c d
-
-  pair-at : (s : ℕ) → 1 ≤ s → s ≤ n → has (x .pair) s ≡ isMet p q s
-  pair-at s c d = ap (λ k. has k s) (w .pair-is) ∙ has-in n (isMet p q) s c d
-
-  heard-at : (s : ℕ) → 1 ≤ s → s ≤ n → has (x .heard) s ≡ not (isNever (latestName n p a q b s))
-  heard-at s c d = ap (λ k. has k s) (w .heard-is) ∙ has-in n (λ s. not (isNever (latestName n p a q b s))) s c d
+  abbrev inAlone : ℕ → Bool
+  inAlone s = not (isMet p q s) && two s
 
   module _ (r : ℕ) (from : 1 ≤ r) (to : r ≤ n) (mine theirs : ℕ) where
-    source-at : (s : ℕ) → 1 ≤ s → s ≤ n
-        → has (sourceOf x r) s ≡ cond (not (isMet p q r) && two r) (not (isMet p q s) && not (one s)) ((not (isMet p q r) && not (one r)) && (not (isMet p q s) && two s))
-    source-at s c d =
-        has-choice (has (x .alone) r) (x .second) _ s
-        ∙ ap (λ t. cond (has (x .alone) r) (has (x .second) s) t) (has-cond (has (x .second) r) (x .alone) s)
-        ∙ (rw (alone-at r from to, second-at s c d, second-at r from to, alone-at s c d) refl)
+    abbrev heard : Bool
+    heard = not (isNever (latestName n p a q b r))
 
-    -- one mark
-    order-at : (s : ℕ) → 1 ≤ s → s ≤ n
-        → has (orderOf x r mine theirs) s
-        ≡ fromSets (isMet p q r) (two r) (one r) (isMet p q s) (two s) (one s) (has mine s) (has theirs s) (not (isNever (latestName n p a q b r)))
-    order-at s c d =
-        has-or (cond (has (x .heard) r) (x .pair) 0) _ s c
-        ∙ ap₂ _||_
-        (has-cond (has (x .heard) r) (x .pair) s ∙ and-comm (has (x .heard) r) (has (x .pair) s) ∙ ap₂ _&&_ (pair-at s c d) (heard-at r from to))
-        (has-or (bitAnd (cond (has (x .first) r) (x .first) 0) mine) _ s c
-        ∙ ap₂ _||_
-        (has-and (cond (has (x .first) r) (x .first) 0) mine s c
-        ∙ ap (λ t. t && has mine s) (has-cond (has (x .first) r) (x .first) s ∙ ap₂ _&&_ (first-at r from to) (first-at s c d)))
-        (has-and (sourceOf x r) theirs s c
-        ∙ ap (λ t. t && has theirs s)
-        (source-at s c d)))
+    from-pair : cond (has (x .heard) r) (x .pair) 0 ≡ bits n (λ s. isMet p q s && heard)
+    from-pair =
+        rw (has-at n _ (w .heard-is) r from to, w .pair-is)
+        (pick-bits heard n (isMet p q) ∙ bits-agree n _ _ (λ s c d. and-comm heard (isMet p q s)))
 
-    order-small : orderOf x r mine theirs < 2 ^ n
-    order-small =
-        let z : 0 < 2 ^ n = pow-pos n in
-        let pair : x .pair < 2 ^ n = rw (w .pair-is) (bits-lt n _) in
-        let first : x .first < 2 ^ n = rw (w .first-is) (bits-lt n _) in
-        let second : x .second < 2 ^ n = rw (w .second-is) (bits-lt n _) in
-        let alone : x .alone < 2 ^ n = rw (w .alone-is) (bits-lt n _) in
-        or-lt n _ _ (cond-lt (has (x .heard) r) (x .pair) 0 (2 ^ n) pair z)
-        (or-lt n _ _
-        (and-small (cond (has (x .first) r) (x .first) 0) mine (2 ^ n) (cond-lt (has (x .first) r) (x .first) 0 (2 ^ n) first z))
-        (and-small (sourceOf x r) theirs (2 ^ n)
-        (cond-lt (has (x .alone) r) (x .second) _ (2 ^ n) second (cond-lt (has (x .second) r) (x .alone) 0 (2 ^ n) alone z))))
+    from-first : bitAnd (cond (has (x .first) r) (x .first) 0) mine ≡ bits n (λ s. (inFirst r && inFirst s) && has mine s)
+    from-first = rw (has-at n _ (w .first-is) r from to, w .first-is, pick-bits (inFirst r) n inFirst) (mask-bits n _ mine)
+
+    from-second : bitAnd (sourceOf x r) theirs ≡ bits n (λ s. cond (inAlone r) (inSecond s) (inSecond r && inAlone s) && has theirs s)
+    from-second =
+        rw (has-at n _ (w .alone-is) r from to, has-at n _ (w .second-is) r from to, w .alone-is, w .second-is, pick-bits (inSecond r) n inAlone, choice-bits (inAlone r) n inSecond (λ s. inSecond r && inAlone s))
+        (mask-bits n _ theirs)
 
     pub order-is : ((s : ℕ) → 1 ≤ s → s ≤ n → has mine s ≡ a .order r s) → ((s : ℕ) → 1 ≤ s → s ≤ n → has theirs s ≡ b .order r s)
         → orderOf x r mine theirs ≡ bits n (mergedOrder n p a q b r)
     unfolding mergedOrder
     order-is hm ht =
-        has-ext n _ _ order-small (bits-lt n _)
-        (λ s c d.
-        order-at s c d
-        ∙ ap₂ (λ j k. fromSets (isMet p q r) (two r) (one r) (isMet p q s) (two s) (one s) j k (not (isNever (latestName n p a q b r)))) (hm s c d) (ht s c d)
-        ∙ marks-test (isMet p q r) (two r) (one r) (isMet p q s) (two s) (one s) (a .order r s) (b .order r s) (not (isNever (latestName n p a q b r)))
-        (not-both (verdict n p a q b r)) (not-both (verdict n p a q b s))
-        ∙ sym (has-in n (mergedOrder n p a q b r) s c d))
+        ap₂ bitOr from-pair (ap₂ bitOr from-first from-second ∙ or-bits n _ _) ∙ or-bits n _ _
+        ∙ bits-agree n _ _ (λ s c d.
+        ap₂ (λ j k. fromSets (isMet p q r) (two r) (one r) (isMet p q s) (two s) (one s) j k heard) (hm s c d) (ht s c d)
+        ∙ marks-test (isMet p q r) (two r) (one r) (isMet p q s) (two s) (one s) (a .order r s) (b .order r s) heard (not-both (verdict n p a q b r)) (not-both (verdict n p a q b s)))
 
 -- Which stalls are heard afterwards: the two that met, and those that the head they come from has heard
 
