@@ -2,4 +2,5 @@
 -- Here are those that several themes use, and the laws for callers. What crates above cite is `pub mod`.
 pub mod ByStalls
 pub mod Frames
+pub mod Latests
 pub mod Theory

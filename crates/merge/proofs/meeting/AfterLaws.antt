@@ -13,7 +13,6 @@ use Rattle.image.specs.Layout.{largest, isYield}
 use Rattle.image.specs.Encode.{Table, encode, tableOf}
 use Rattle.image.specs.Made.{NameIn, Made}
 use Rattle.image.specs.Row.{isNever}
-use Rattle.image.specs.declared.Meet.{Meet}
 use Rattle.image.specs.declared.Name.{Name}
 use Rattle.image.specs.declared.Name.the-variants.{Never, With}
 use Rattle.image.proofs.Tables.{none-at}
@@ -23,35 +22,18 @@ use Rattle.image.proofs.AcceptedMade.{accepted-made}
 use Rattle.image.proofs.MadeAccepted.{read-name, read-mark, made-accepted}
 use Rattle.merge.specs.Known.{sameMeeting, common, known}
 use Rattle.merge.specs.Verdict.{sameName, judge, verdict, undecided}
-use Rattle.merge.specs.Label.{newLabel}
 use Rattle.merge.specs.Merged.{met, firstHas, secondHas, supplier, supplierStall, latestName, mergedNames, mergedYields, orderBetween, mergedOrder, merged, verdictBytes}
 use Rattle.merge.specs.Call.{refusedMeeting, acceptedMeeting, metTogether, metGood, metChecked, meetingCall}
 use Rattle.merge.proofs.known.Agreeing.{verdict-agree}
 use Rattle.merge.proofs.pairs.PairRows.{each-agree}
 use Rattle.merge.proofs.label.NewLabel.{newLabel-limit}
+use Rattle.merge.proofs.Latests.{pick, pick-neither, never-with, not-never, newName, latest-met, latest-other}
 
 -- Cases
 
 pub either : {A : Type 0} (P : A → Type 0) (x : Bool) (u v : A) → (x ≡ true → P u) → (x ≡ false → P v) → P (cond x u v)
 either P true u v f g = f refl
 either P false u v f g = g refl
-
-pick : {A : Type 0} (P : A → Type 0) (x y : Bool) (u v z : A) → (x ≡ true → P u) → (y ≡ true → P v) → ((x || y) ≡ false → P z) → P (cond x u (cond y v z))
-pick P true y u v z f g h = f refl
-pick P false true u v z f g h = g refl
-pick P false false u v z f g h = h refl
-
-pick-neither : {A : Type 0} (x y : Bool) (u v z : A) → (x || y) ≡ false → cond x u (cond y v z) ≡ z
-pick-neither true y u v z e = absurd (true≢false e)
-pick-neither false true u v z e = absurd (true≢false e)
-pick-neither false false u v z e = refl
-
-never-with : {m : Meet} → With m ≡ Never → ⊥
-never-with e = let z : _≡_ {A = ℕ} 0 1 = cc in omega arith
-
-not-never : (x : Name) → (x ≡ Never → ⊥) → not (isNever x) ≡ true
-not-never Never h = absurd (h refl)
-not-never (With m) h = refl
 
 never-not : (x : Name) → not (isNever x) ≡ true → x ≡ Never → ⊥
 never-not Never e = absurd (false≢true e)
@@ -97,28 +79,13 @@ pub record Meets (n p : ℕ) (a : Table) (q : ℕ) (b : Table) : Type 0 where
 -- Who was met, and who not
 
 module _ (n p : ℕ) (a : Table) (q : ℕ) (b : Table) where
-  abbrev newName : ℕ → Name
-  newName partner = With (record { partner = partner; label = newLabel n p a q b })
-
-  latest-met : (r : ℕ) → met n p a q b r ≡ true → latestName n p a q b r ≡ Never → ⊥
-  unfolding latestName
-  latest-met r e =
-      pick (λ x. x ≡ Never → ⊥) (eqb r p) (eqb r q) (newName q) (newName p) (supplier n p a q b r .names (supplierStall n p a q b r) r)
-      (λ i. never-with)
-      (λ i. never-with)
-      (λ i. absurd (true≢false (sym e ∙ i)))
-
-  latest-other : (r : ℕ) → met n p a q b r ≡ false → latestName n p a q b r ≡ supplier n p a q b r .names (supplierStall n p a q b r) r
-  unfolding latestName
-  latest-other r e = pick-neither (eqb r p) (eqb r q) (newName q) (newName p) (supplier n p a q b r .names (supplierStall n p a q b r) r) e
-
   -- who has no name was not met, and the supplier has none
   never-other : (r : ℕ) → latestName n p a q b r ≡ Never → (met n p a q b r ≡ false) × (supplier n p a q b r .names (supplierStall n p a q b r) r ≡ Never)
   never-other r z = go (met n p a q b r) refl
     where
       go : (t : Bool) → met n p a q b r ≡ t → (t ≡ false) × (supplier n p a q b r .names (supplierStall n p a q b r) r ≡ Never)
-      go true e = absurd (latest-met r e z)
-      go false e = (refl, sym (latest-other r e) ∙ z)
+      go true e = absurd (latest-met n p a q b r e z)
+      go false e = (refl, sym (latest-other n p a q b r e) ∙ z)
 
   -- the own row of either is the new list
   pub own-row : (own r : ℕ) → met n p a q b own ≡ true → mergedNames n p a q b own r ≡ latestName n p a q b r

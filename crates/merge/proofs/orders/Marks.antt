@@ -1,7 +1,7 @@
 -- The order marks that are put together from sets are those of the merged table.
 use Prim.Native.Nat.{ℕ, _≤_}
-use mathlib.Core.Path.{_≡_, refl, sym, ap, ap₂, _∙_}
-use mathlib.Core.Bool.{Bool, true, false, _&&_, _||_, not, cond, or-false, and-comm, false≢true}
+use mathlib.Core.Path.{_≡_, refl, sym, ap₂, _∙_}
+use mathlib.Core.Bool.{Bool, true, false, _&&_, _||_, not, cond, or-false, and-comm}
 use native.Mathlib.Omega.{arith}
 use borrow.Author.Tests.{eqb-true}
 use lib.Bits.{bitAnd, bitOr}
@@ -12,13 +12,12 @@ use Rattle.image.specs.Encode.{Table}
 use Rattle.image.specs.Row.{isNever}
 use Rattle.image.proofs.Encoding.{bits-agree}
 use Rattle.image.proofs.StallSets.{has-at, pick-bits, choice-bits, mask-bits, and-bits, or-bits, without-bits, one-bits}
-use Rattle.image.specs.declared.Name.the-variants.{With}
-use Rattle.merge.specs.Label.{newLabel}
 use Rattle.merge.specs.declared.Decided.{Decided}
 use Rattle.merge.specs.declared.Sets.{Sets}
 use Rattle.merge.specs.Verdict.{verdict}
-use Rattle.merge.specs.Merged.{isMet, supplier, supplierStall, latestName, mergedOrder}
+use Rattle.merge.specs.Merged.{isMet, latestName, mergedOrder}
 use Rattle.merge.specs.Views.{heardFrom, Decides}
+use Rattle.merge.proofs.Latests.{not-never, latest-met, latest-other}
 use Rattle.merge.specs.Orders.{Sorted, apart, Sorts, sourceOf, orderOf}
 
 -- The mark (r, s): m says that r met, f and g whether the verdict on r is 2 and 1, o, h and k the same of s, a and b whether the first and the second have the mark,
@@ -93,38 +92,17 @@ module _ (n p : ℕ) (a : Table) (q : ℕ) (b : Table) (x : Sets) (w : Sorted n 
 
 -- Which stalls are heard afterwards: the two that met, and those that the head they come from has heard
 
-met-named : (n p : ℕ) (a : Table) (q : ℕ) (b : Table) (r : ℕ) → isMet p q r ≡ true → isNever (latestName n p a q b r) ≡ false
-unfolding latestName
-met-named n p a q b r e = go (eqb r p) (eqb r q) e
-  where
-    go : (f g : Bool) → (f || g) ≡ true
-        → isNever (cond f (With (record { partner = q; label = newLabel n p a q b })) (cond g (With (record { partner = p; label = newLabel n p a q b })) (supplier n p a q b r .names (supplierStall n p a q b r) r))) ≡ false
-    go true g i = refl
-    go false true i = refl
-    go false false i = absurd (false≢true i)
-
-apart-name : (n p : ℕ) (a : Table) (q : ℕ) (b : Table) (r : ℕ) → isMet p q r ≡ false → latestName n p a q b r ≡ cond (eqb (verdict n p a q b r) 2) (b .names q r) (a .names p r)
-unfolding latestName
-apart-name n p a q b r e = go (eqb r p) (eqb r q) (eqb (verdict n p a q b r) 2) e
-  where
-    go : (f g t : Bool) → (f || g) ≡ false
-        → cond f (With (record { partner = q; label = newLabel n p a q b })) (cond g (With (record { partner = p; label = newLabel n p a q b })) ((cond (not t) a b) .names (cond (not t) p q) r)) ≡ cond t (b .names q r) (a .names p r)
-    go true g t i = absurd (false≢true (sym i))
-    go false true t i = absurd (false≢true (sym i))
-    go false false true i = refl
-    go false false false i = refl
-
 heard-after : (n p : ℕ) (a : Table) (q : ℕ) (b : Table) (r : ℕ)
     → (isMet p q r || heardFrom (verdict n p a q b r) (a .names p r) (b .names q r)) ≡ not (isNever (latestName n p a q b r))
 heard-after n p a q b r = go (isMet p q r) refl
   where
-    from : (t : Bool) → cond t (not (isNever (b .names q r))) (not (isNever (a .names p r))) ≡ not (isNever (cond t (b .names q r) (a .names p r)))
+    from : (t : Bool) → cond t (not (isNever (b .names q r))) (not (isNever (a .names p r))) ≡ not (isNever (cond (not t) a b .names (cond (not t) p q) r))
     from true = refl
     from false = refl
 
     go : (m : Bool) → isMet p q r ≡ m → (m || heardFrom (verdict n p a q b r) (a .names p r) (b .names q r)) ≡ not (isNever (latestName n p a q b r))
-    go true e = sym (ap not (met-named n p a q b r e))
-    go false e = rw (apart-name n p a q b r e) (from (eqb (verdict n p a q b r) 2))
+    go true e = sym (not-never _ (latest-met n p a q b r e))
+    go false e = rw (latest-other n p a q b r e) (from (eqb (verdict n p a q b r) 2))
 
 -- The stalls by who has them
 
