@@ -1,8 +1,7 @@
 -- Well-made tables: the one that says nothing, a milked one, and one that says the same.
 use Prim.Native.Nat.{ℕ, _≤_}
 use mathlib.Core.Path.{_≡_, refl}
-use mathlib.Core.Bool.{true, false≢true}
-use Rattle.image.specs.Layout.{isYield}
+use mathlib.Core.Bool.{false≢true}
 use Rattle.image.specs.Encode.{Table, nothing}
 use Rattle.image.specs.Made.{Made}
 use Rattle.image.proofs.Yields.{yield-none}
@@ -20,21 +19,6 @@ nothing-made n own =
       marks-heard = λ r c i j k l e. absurd (false≢true e);
       marked-self = λ r i j h. absurd (h refl);
       marked-own = λ r i j h. absurd (h refl);
-    }
-
-pub milked-made : {n own : ℕ} {t : Table} (y : ℕ) → Made n own t → isYield y ≡ true
-    → Made n own (record { current = y; names = t .names; yields = t .yields; order = t .order })
-milked-made y m l =
-    record {
-      current-in = l;
-      yields-in = m .yields-in;
-      names-in = m .names-in;
-      diagonal = m .diagonal;
-      unheard-row = m .unheard-row;
-      unheard-yield = m .unheard-yield;
-      marks-heard = m .marks-heard;
-      marked-self = m .marked-self;
-      marked-own = m .marked-own;
     }
 
 -- only what lies within n counts

@@ -5,14 +5,13 @@ use mathlib.Core.List.{List, _++_}
 use native.Mathlib.Omega.{arith}
 use native.Mathlib.Nat.{mul-le-mul-right}
 use borrow.Author.Tests.{le-leb}
-use lib.ListN.{length, getD, set, take, drop, replicate}
+use lib.ListN.{length, getD, take, drop, replicate}
 use lib.Pow.{pow-mono}
-use lib.Seq.{sets}
+use lib.Seq.{sets, sets-eq}
 use Rattle.image.specs.Layout.{largest, lengthOf, orderWidth, orderFrom, orderPlace, imageLength}
 use Rattle.image.specs.Encode.{orderBytes}
 use Rattle.image.proofs.Search.{times-step}
 use Rattle.image.proofs.Has.{Has, has-first, has-one}
-use Rattle.image.proofs.Overwrite.{store-at}
 
 -- Its width
 
@@ -61,12 +60,16 @@ entry-same s u n at same = same at (omega arith)
 
 -- A set of 1 to n, written
 
+order-fits : (n x : ℕ) → n ≤ largest → x < 2 ^ n → x % 256 ^ orderWidth n ≡ x
+unfolding orderWidth
+order-fits n x a b = omega (arith, pow-mono {i = n} {j = largest} a)
+
 pub order-put : (s : List ℕ) (n at x : ℕ) → at + orderWidth n ≤ length s → n ≤ largest → x < 2 ^ n
     → sets s at (orderBytes n (x % 256 ^ orderWidth n)) ≡ take at s ++ orderBytes n x ++ drop (at + orderWidth n) s
-unfolding orderWidth orderBytes
 order-put s n at x l a b =
-    let e : x % 256 ≡ x = omega (arith, pow-mono {i = n} {j = largest} a) in
-    ap (λ y. set s at y) e ∙ store-at s at x (omega arith)
+    ap (λ y. sets s at (orderBytes n y)) (order-fits n x a b)
+    ∙ sets-eq (orderBytes n x) s at (omega (arith, length-order n x))
+    ∙ ap (λ k. take at s ++ orderBytes n x ++ drop (at + k) s) (length-order n x)
 
 -- Where it stands
 

@@ -9,7 +9,7 @@ use Rattle.image.specs.Layout.{largest, rowPlace, nameAt}
 use Rattle.image.specs.Frame.{Framed}
 use Rattle.image.specs.Row.{tabulate, neverAt, entryAt, ownRow}
 use Rattle.image.proofs.Places.{row-within}
-use Rattle.image.proofs.Fill.{length-tabulate, getD-tabulate}
+use Rattle.image.proofs.Fill.{getD-tabulate}
 
 own-row-is : (s : List ℕ) (n own : ℕ) → Framed s n own → ownRow s n own ≡ tabulate largest (entryAt s n (rowPlace n own))
 unfolding ownRow
@@ -21,9 +21,6 @@ unfolding entryAt nameAt
 entry-name s n own c b = rw (le-leb c n b)
 
 module _ (s : List ℕ) (n own : ℕ) (f : Framed s n own) where
-  pub own-row-long : length (ownRow s n own) ≡ largest
-  own-row-long = ap length (own-row-is s n own f) ∙ length-tabulate largest (entryAt s n (rowPlace n own))
-
   pub own-row-name : (c : ℕ) → 1 ≤ c → c ≤ n → getD (ownRow s n own) (c - 1) (neverAt 0) .name ≡ nameAt s n own c
   own-row-name c a b =
       let i : suc (c - 1) ≡ c = omega arith in

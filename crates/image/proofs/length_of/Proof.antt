@@ -1,5 +1,5 @@
 -- The table of lengths follows its rule, by one test of the whole table.
-use Prim.Native.Nat.{ℕ, _<_}
+use Prim.Native.Nat.{ℕ, suc, _<_}
 use mathlib.Core.Path.{_≡_, refl, sym}
 use mathlib.Core.List.{List, [], _∷_}
 use native.Mathlib.Omega.{arith}
@@ -15,9 +15,9 @@ use Rattle.image.proofs.length_of.Tie as tie
 abbrev lengths : List ℕ
 lengths = 0 ∷ 0 ∷ 18 ∷ 31 ∷ 48 ∷ 69 ∷ 94 ∷ 123 ∷ 156 ∷ []
 
-rule : (k : ℕ) → k < 9 → getD lengths k 0 ≡ lengthOf k
+rule : (k : ℕ) → k < suc largest → getD lengths k 0 ≡ lengthOf k
 unfolding some
-rule = table-rule 9 (λ k. getD lengths k 0) lengthOf refl
+rule = table-rule (suc largest) (λ k. getD lengths k 0) lengthOf refl
 
 beyond : (n : ℕ) → largest < n → lengthOf n ≡ 0
 beyond n l = rw (le-leb 2 n (omega arith), lt-leb n largest l)
