@@ -38,10 +38,10 @@ fn write_meeting(first: &mut [u8], second: &mut [u8], x: Parties, d: Decided) ->
         × (now (second .exit)
         ≡ imageAfter (now (second .entry)) (now (first .entry)) (now (second .entry)) (x .n) (x .p) (x .q) r (has (d .two))) ⌝ }
 {
+    let orders = orders_after(first, second, x, d);
     let k = new_label(first, second, x);
     let rows = merged_rows(first, second, x, k, d.two);
     let yields = merged_yields(first, second, x, d.two);
-    let orders = orders_after(first, second, x, d);
     write_body(first, wide(x.n), rows, yields, orders);
     copy_body(second, first);
     k
