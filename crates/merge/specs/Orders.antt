@@ -36,14 +36,14 @@ pub record Sorts (n p q : ℕ) (d : Decided) (x : Sets) : Type 0 where
   pub heard-is : x .heard ≡ bitOr (x .pair) (d .heard)
 
 -- the stalls whose marks stall r takes from the second
-abbrev pub sourceOf : Sets → ℕ → ℕ
-sourceOf x r = cond (has (x .alone) r) (x .second) (cond (has (x .second) r) (x .alone) 0)
+abbrev pub fromSecond : Sets → ℕ → ℕ
+fromSecond x r = cond (has (x .alone) r) (x .second) (cond (has (x .second) r) (x .alone) 0)
 
 -- the order marks of stall r, by those that it has in both images
 abbrev pub orderOf : Sets → ℕ → ℕ → ℕ → ℕ
 orderOf x r mine theirs =
     bitOr (cond (has (x .heard) r) (x .pair) 0)
-    (bitOr (bitAnd (cond (has (x .first) r) (x .first) 0) mine) (bitAnd (sourceOf x r) theirs))
+    (bitOr (bitAnd (cond (has (x .first) r) (x .first) 0) mine) (bitAnd (fromSecond x r) theirs))
 
 -- the order entries of the first m stalls, as numbers, after images s and u met
 abbrev pub Ordered : List ℕ → List ℕ → ℕ → ℕ → ℕ → ℕ → List ℕ → Type 0

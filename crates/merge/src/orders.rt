@@ -6,7 +6,7 @@ ghost use Rattle.image.specs.Encode.{tableOf};
 ghost use Rattle.image.specs.Frame.{Sized, Framed};
 ghost use Rattle.merge.specs.ByStall.{ByStall};
 ghost use Rattle.merge.specs.Views.{Decides};
-ghost use Rattle.merge.specs.Orders.{Sorts, sourceOf, orderOf, Ordered};
+ghost use Rattle.merge.specs.Orders.{Sorts, fromSecond, orderOf, Ordered};
 use crate::Decided;
 use crate::Parties;
 use crate::Sets;
@@ -40,7 +40,7 @@ fn sorted(x: Parties, d: Decided) -> Sets
 // The stalls whose marks the stall behind r others takes from the second.
 fn source(x: Sets, r: usize) -> u64
     requires { ⌜ r < largest ⌝ }
-    ensures { λ o. ⌜ o ≡ sourceOf x (suc r) ⌝ }
+    ensures { λ o. ⌜ o ≡ fromSecond x (suc r) ⌝ }
 {
     if has_stall(x.alone, r) {
         return x.second;

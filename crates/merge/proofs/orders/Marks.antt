@@ -18,7 +18,7 @@ use Rattle.merge.specs.Verdict.{verdict}
 use Rattle.merge.specs.Merged.{isMet, latestName, mergedOrder}
 use Rattle.merge.specs.Views.{heardFrom, Decides}
 use Rattle.merge.proofs.Latests.{not-never, latest-met, latest-other}
-use Rattle.merge.specs.Orders.{Sorted, apart, Sorts, sourceOf, orderOf}
+use Rattle.merge.specs.Orders.{Sorted, apart, Sorts, fromSecond, orderOf}
 
 -- The mark (r, s): m says that r met, f and g whether the verdict on r is 2 and 1, o, h and k the same of s, a and b whether the first and the second have the mark,
 -- and d whether r is heard
@@ -76,7 +76,7 @@ module _ (n p : ℕ) (a : Table) (q : ℕ) (b : Table) (x : Sets) (w : Sorted n 
     from-first : bitAnd (cond (has (x .first) r) (x .first) 0) mine ≡ bits n (λ s. (inFirst r && inFirst s) && has mine s)
     from-first = rw (has-at n _ (w .first-is) r from to, w .first-is, pick-bits (inFirst r) n inFirst) (mask-bits n _ mine)
 
-    from-second : bitAnd (sourceOf x r) theirs ≡ bits n (λ s. cond (inAlone r) (inSecond s) (inSecond r && inAlone s) && has theirs s)
+    from-second : bitAnd (fromSecond x r) theirs ≡ bits n (λ s. cond (inAlone r) (inSecond s) (inSecond r && inAlone s) && has theirs s)
     from-second =
         rw (has-at n _ (w .alone-is) r from to, has-at n _ (w .second-is) r from to, w .alone-is, w .second-is, pick-bits (inSecond r) n inAlone, choice-bits (inAlone r) n inSecond (λ s. inSecond r && inAlone s))
         (mask-bits n _ theirs)
