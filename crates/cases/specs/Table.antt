@@ -6,6 +6,7 @@ use lib.Dec.{eqb}
 use lib.ListN.{replicate}
 use Rattle.image.specs.Stalls.{each}
 use Rattle.image.specs.Examples.{withLabel, nine-first, nine-second, listing}
+use Rattle.line.specs.Examples.{frames}
 use Rattle.cases.specs.Case.{Given, labels, verdicts, firsts, together, milked, lines, number, lent, everyTwo}
 
 pub record Case : Type 0 where
@@ -62,7 +63,7 @@ table =
     -- "N=4, 1-2, 1-3, 2-4, then 3-4: 1, 2, 1, 2."
     ∷ (verdicts 4 ((1, 2) ∷ (1, 3) ∷ (2, 4) ∷ []) 3 4 gives (1 ∷ 2 ∷ 1 ∷ 2 ∷ []))
     -- "the listing above": the answers to all five lines, the last with the image of head 3
-    ∷ (lines ((0x01 ∷ 0x03 ∷ []) ∷ (0x02 ∷ 0x01 ∷ 0x00 ∷ 0x12 ∷ []) ∷ (0x03 ∷ 0x01 ∷ 0x02 ∷ []) ∷ (0x03 ∷ 0x02 ∷ 0x03 ∷ []) ∷ (0x04 ∷ 0x03 ∷ []) ∷ [])
+    ∷ (lines frames
     gives ((0x00 ∷ []) ++ (0x00 ∷ []) ++ (0x00 ∷ 0x00 ∷ 0x00 ∷ 0x00 ∷ 0x00 ∷ []) ++ (0x00 ∷ 0x00 ∷ 0x01 ∷ 0x01 ∷ 0x00 ∷ []) ++ (0x00 ∷ listing)))
     -- "both images of row 9"
     ∷ (together nine-first nine-second gives ((256 + 9) ∷ (nine-first ++ nine-second ++ lent 2)))

@@ -132,6 +132,19 @@ bits-lt (suc n) f = go (f (suc n)) (bits-lt n f)
     go true l = omega (arith, pow-succ' 2 n)
     go false l = omega (arith, pow-succ' 2 n)
 
+-- two tests that agree on 1 to n pick the same
+pub bits-agree : (n : ℕ) (f g : ℕ → Bool) → ((s : ℕ) → 1 ≤ s → s ≤ n → f s ≡ g s) → bits n f ≡ bits n g
+unfolding bits
+bits-agree zero f g e = refl
+bits-agree (suc n) f g e =
+    ap₂ (λ b t. b + cond t (2 ^ n) 0) (bits-agree n f g (λ s a b. e s a (omega arith))) (e (suc n) (omega arith) (omega arith))
+
+-- a test that nothing passes picks nothing
+pub bits-none : (n : ℕ) → bits n (λ s. false) ≡ 0
+unfolding bits
+bits-none zero = refl
+bits-none (suc n) = omega (arith, bits-none n)
+
 digit-none : (k : ℕ) → digit 0 k ≡ 0
 unfolding digit
 digit-none k = rw (zero-div (2 ^ k))

@@ -1,5 +1,5 @@
 -- The image of a table, read back: what stands where in it, and that an accepted image is the image of what it says.
-use Prim.Native.Nat.{ℕ, zero, suc, _+_, _-_, _/_, _%_, _^_, _≤_, _<_}
+use Prim.Native.Nat.{ℕ, _+_, _-_, _/_, _%_, _^_, _≤_, _<_}
 use mathlib.Core.Path.{_≡_, refl, sym, ap, ap₂, _∙_}
 use mathlib.Core.Bool.{Bool, true, false, _&&_, _||_, not, cond, true≢false}
 use mathlib.Core.List.{List, [], _∷_, _++_}
@@ -15,7 +15,7 @@ use Rattle.image.specs.Check.{badName, badDiagonal, badUnheard, badRow, 
 use Rattle.image.specs.Encode.{Table, nameBytes, wordBytes, orderBytes, encode, tableOf, nothing}
 use Rattle.image.specs.declared.Name.{Name}
 use Rattle.image.specs.declared.Name.the-variants.{Never, With}
-use Rattle.image.proofs.Bits.{has-ext, has-bits, bits-lt}
+use Rattle.image.proofs.Bits.{has-ext, has-bits, bits-lt, bits-agree, bits-none}
 use Rattle.image.proofs.Tables.{none-at}
 use Rattle.image.proofs.Passing.{or-fails}
 use Rattle.image.proofs.Places.{row-within}
@@ -182,12 +182,6 @@ module _ (n own : ℕ) (t : Table) where
 
 -- The image depends only on what lies within n
 
-pub bits-agree : (n : ℕ) (f g : ℕ → Bool) → ((s : ℕ) → 1 ≤ s → s ≤ n → f s ≡ g s) → bits n f ≡ bits n g
-unfolding bits
-bits-agree zero f g e = refl
-bits-agree (suc n) f g e =
-    ap₂ (λ b t. b + cond t (2 ^ n) 0) (bits-agree n f g (λ s a b. e s a (omega arith))) (e (suc n) (omega arith) (omega arith))
-
 pub encode-agree : (n own : ℕ) (t u : Table) → t .current ≡ u .current
     → ((r c : ℕ) → 1 ≤ r → r ≤ n → 1 ≤ c → c ≤ n → t .names r c ≡ u .names r c)
     → ((r : ℕ) → 1 ≤ r → r ≤ n → t .yields r ≡ u .yields r)
@@ -281,11 +275,6 @@ encode-accepted s n own f count stall bytes names marks =
         (order-has s n (orderPlace n r) (omega (arith, order-within i j)) bytes)
 
 -- The image of a table that has heard nobody
-
-pub bits-none : (n : ℕ) → bits n (λ s. false) ≡ 0
-unfolding bits
-bits-none zero = refl
-bits-none (suc n) = omega (arith, bits-none n)
 
 pub fresh-encode : (n own : ℕ) → n ∷ own ∷ replicate (imageLength n - 2) 0 ≡ encode n own nothing
 unfolding nothing

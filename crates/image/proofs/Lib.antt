@@ -9,7 +9,7 @@ pub mod Yields
 pub mod Overwrite
 pub mod Has
 pub mod OrderEntry
-pub mod OrderByte
+pub mod OrderTest
 pub mod Encoding
 pub mod StallSets
 pub mod Accepted

@@ -10,8 +10,7 @@ use lib.Bits.{bitAnd, bitOr, and-le-l, or-lt}
 use lib.Dec.{eqb, leb}
 use lib.Pow.{pow-pos}
 use Rattle.image.specs.Stalls.{some, bits, has, without, bitOf}
-use Rattle.image.proofs.Bits.{has-ext, has-and, has-or, has-zero, has-bits, bits-lt, bitOf-is, Found, at, nowhere, some-found}
-use Rattle.image.proofs.Encoding.{bits-agree, bits-none}
+use Rattle.image.proofs.Bits.{has-ext, has-and, has-or, has-zero, has-bits, bits-lt, bitOf-is, Found, at, nowhere, some-found, bits-agree, bits-none}
 
 -- what a set of 1 to n has
 pub has-in : (n : ℕ) (f : ℕ → Bool) (s : ℕ) → 1 ≤ s → s ≤ n → has (bits n f) s ≡ f s

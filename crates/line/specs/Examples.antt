@@ -71,20 +71,27 @@ digit-examples : (digitsOf (0x01 ∷ 0x03 ∷ []) ≡ 0x30 ∷ 0x31 ∷ 0x30 ∷
 unfolding answered
 digit-examples = (refl, refl)
 
--- "Input and whole output"
-listing-example : answersTo shut (map digitsOf
-    ((0x01 ∷ 0x03 ∷ [])
+-- the frames of the listing, and their answers
+abbrev pub frames : List (List ℕ)
+frames =
+    (0x01 ∷ 0x03 ∷ [])
     ∷ (0x02 ∷ 0x01 ∷ 0x00 ∷ 0x12 ∷ [])
     ∷ (0x03 ∷ 0x01 ∷ 0x02 ∷ [])
     ∷ (0x03 ∷ 0x02 ∷ 0x03 ∷ [])
     ∷ (0x04 ∷ 0x03 ∷ [])
-    ∷ []))
-    ≡ (0x00 ∷ [])
+    ∷ []
+
+abbrev pub answers : List (List ℕ)
+answers =
+    (0x00 ∷ [])
     ∷ (0x00 ∷ [])
     ∷ (0x00 ∷ 0x00 ∷ 0x00 ∷ 0x00 ∷ 0x00 ∷ [])
     ∷ (0x00 ∷ 0x00 ∷ 0x01 ∷ 0x01 ∷ 0x00 ∷ [])
     ∷ (0x00 ∷ listing)
     ∷ []
+
+-- "Input and whole output"
+listing-example : answersTo shut (map digitsOf frames) ≡ answers
 unfolding answered replyTo answersTo
 listing-example = refl
 

@@ -45,6 +45,6 @@ orderOf x r mine theirs =
     bitOr (cond (has (x .heard) r) (x .pair) 0)
     (bitOr (bitAnd (cond (has (x .first) r) (x .first) 0) mine) (bitAnd (fromSecond x r) theirs))
 
--- the order entries of the first m stalls, as numbers, after images s and u met
-abbrev pub Ordered : List ℕ → List ℕ → ℕ → ℕ → ℕ → ℕ → List ℕ → Type 0
-Ordered s u n p q m = ByStall 0 largest m (λ r. bits n (mergedOrder n p (tableOf s n) q (tableOf u n) r))
+-- the order entries, as numbers, after images s and u met
+abbrev pub Ordered : List ℕ → List ℕ → ℕ → ℕ → ℕ → List ℕ → Type 0
+Ordered s u n p q = ByStall 0 largest n (λ r. bits n (mergedOrder n p (tableOf s n) q (tableOf u n) r))

@@ -42,13 +42,13 @@ shared n c x y theirs =
     let z = theirs (partnerIn x) in
     not (isNever x) && (sameName x y || leb (partnerIn x) n && (eqb c (partnerIn z) && eqb (labelIn x) (labelIn z)))
 
--- the columns 1 to m of an own row of n names, mine, against another, theirs
-pub record Views (n : ℕ) (mine theirs : ℕ → Name) (m : ℕ) (x : View) : Type 0 where
-  pub common-is : x .common ≡ bits m (common n mine theirs)
-  pub heard-is : x .heard ≡ bits m (λ c. not (isNever (mine c)))
-  pub same-is : x .same ≡ bits m (λ c. sameName (mine c) (theirs c))
+-- the columns of an own row of n names, mine, against another, theirs
+pub record Views (n : ℕ) (mine theirs : ℕ → Name) (x : View) : Type 0 where
+  pub common-is : x .common ≡ bits n (common n mine theirs)
+  pub heard-is : x .heard ≡ bits n (λ c. not (isNever (mine c)))
+  pub same-is : x .same ≡ bits n (λ c. sameName (mine c) (theirs c))
 
--- a stall comes from the head that has heard it, by its verdict and by both heads' names
+-- the head that a stall comes from has heard it, by its verdict and by both heads' names
 abbrev pub heardFrom : ℕ → Name → Name → Bool
 heardFrom v x y = cond (eqb v 2) (not (isNever y)) (not (isNever x))
 

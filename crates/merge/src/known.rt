@@ -97,7 +97,7 @@ fn column(mine: &[u8], a: usize, theirs: &[u8], b: usize, row: usize, n: u8, c: 
 // One own row, which starts at a, against the other, which starts at b.
 fn view(mine: &[u8], a: usize, theirs: &[u8], b: usize, n: u8) -> View
     requires { ⌜ (n ≤ largest) × (a + n * 2 ≤ length (now mine)) × (b + n * 2 ≤ length (now theirs)) ⌝ }
-    ensures { λ r. ⌜ Views n (rowName (now (mine .entry)) a) (rowName (now (theirs .entry)) b) n r ⌝ }
+    ensures { λ r. ⌜ Views n (rowName (now (mine .entry)) a) (rowName (now (theirs .entry)) b) r ⌝ }
 {
     let mut common = 0u64;
     let mut heard = 0u64;

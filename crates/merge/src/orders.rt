@@ -79,7 +79,7 @@ fn merged_orders(first: &[u8], second: &[u8], n: usize, x: Sets) -> [u16; STALLS
 pub(crate) fn orders_after(first: &[u8], second: &[u8], x: Parties, d: Decided) -> [u16; STALLS]
     requires { ⌜ Framed (now first) (x .n) (x .p) × Framed (now second) (x .n) (x .q) ⌝ }
     requires { ⌜ Decides (x .n) (x .p) (tableOf (now first) (x .n)) (x .q) (tableOf (now second) (x .n)) d ⌝ }
-    ensures { λ r. ⌜ Ordered (now (first .entry)) (now (second .entry)) (x .n) (x .p) (x .q) (x .n) r ⌝ }
+    ensures { λ r. ⌜ Ordered (now (first .entry)) (now (second .entry)) (x .n) (x .p) (x .q) r ⌝ }
 {
     merged_orders(first, second, wide(x.n), sorted(x, d))
 }

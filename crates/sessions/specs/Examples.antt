@@ -4,25 +4,11 @@ use mathlib.Core.Path.{_≡_, refl}
 use mathlib.Core.List.{List, [], _∷_, _++_}
 use Rattle.image.specs.Examples.{listing}
 use Rattle.line.specs.Digits.{digitsOf}
-use Rattle.line.specs.Examples.{answered}
+use Rattle.line.specs.Examples.{answered, frames, answers}
 use Rattle.parlour.specs.Examples.{evaluated}
 use Rattle.stream.specs.Stream.{newline}
 use Rattle.sessions.specs.Lines.{opens, heads, itemsOf, items}
 use Rattle.sessions.specs.Input.{linesFrom, linesOf, AnswersTo, none, one-more}
-
--- the frames of the listing
-abbrev frames : List (List ℕ)
-frames = (0x01 ∷ 0x03 ∷ []) ∷ (0x02 ∷ 0x01 ∷ 0x00 ∷ 0x12 ∷ []) ∷ (0x03 ∷ 0x01 ∷ 0x02 ∷ []) ∷ (0x03 ∷ 0x02 ∷ 0x03 ∷ []) ∷ (0x04 ∷ 0x03 ∷ []) ∷ []
-
--- and its answers
-abbrev answers : List (List ℕ)
-answers =
-    (0x00 ∷ [])
-    ∷ (0x00 ∷ [])
-    ∷ (0x00 ∷ 0x00 ∷ 0x00 ∷ 0x00 ∷ 0x00 ∷ [])
-    ∷ (0x00 ∷ 0x00 ∷ 0x01 ∷ 0x01 ∷ 0x00 ∷ [])
-    ∷ (0x00 ∷ listing)
-    ∷ []
 
 -- as text, each with a newline behind it
 text : List (List ℕ) → List ℕ

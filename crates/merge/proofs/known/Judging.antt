@@ -10,8 +10,7 @@ use Rattle.image.specs.Layout.{rowPlace, orderAt, nameAt, markAt}
 use Rattle.image.specs.Encode.{Table, tableOf}
 use Rattle.image.specs.Row.{isNever}
 use Rattle.image.specs.declared.Name.{Name}
-use Rattle.image.proofs.Bits.{common-test}
-use Rattle.image.proofs.Encoding.{bits-agree}
+use Rattle.image.proofs.Bits.{common-test, bits-agree}
 use Rattle.image.proofs.StallSets.{and-bits, or-bits, without-bits}
 use Rattle.merge.specs.declared.View.{View}
 use Rattle.merge.specs.declared.Decided.{Decided}
@@ -21,7 +20,7 @@ use Rattle.merge.specs.Views.{rowName, Views, Decides}
 
 -- The latests that are known to the other, as a set: x is what the own row shows, and order gives the order marks of each stall
 
-pub known-set : (n : ℕ) (mine theirs : ℕ → Name) (order : ℕ → ℕ) (x : View) → Views n mine theirs n x → (all marked : ℕ)
+pub known-set : (n : ℕ) (mine theirs : ℕ → Name) (order : ℕ → ℕ) (x : View) → Views n mine theirs x → (all marked : ℕ)
     → all ≡ bits n (λ s. true) → marked ≡ bits n (λ r. not (eqb (bitAnd (order r) (x .common)) 0))
     → bitOr (without all (x .heard)) marked ≡ bits n (λ r. known n mine (has (order r)) theirs r)
 unfolding known
@@ -75,7 +74,7 @@ module _ (n p : ℕ) (a : Table) (q : ℕ) (b : Table) where
   abbrev pub same : ℕ → Bool
   same r = sameName (a .names p r) (b .names q r)
 
-  pub decides : (x y : View) → Views n (a .names p) (b .names q) n x → Views n (b .names q) (a .names p) n y → (all first second : ℕ)
+  pub decides : (x y : View) → Views n (a .names p) (b .names q) x → Views n (b .names q) (a .names p) y → (all first second : ℕ)
       → all ≡ bits n (λ s. true) → first ≡ bits n firstKnown → second ≡ bits n secondKnown → (d : Decided)
       → d .one ≡ without second first → d .two ≡ without first second
       → d .nine ≡ bitOr (without all (bitOr first second)) (without (bitAnd first second) (x .same))
@@ -106,7 +105,7 @@ module _ (n p : ℕ) (a : Table) (q : ℕ) (b : Table) where
 
 -- The same of two images: own rows at i and j, looked at from both sides, and the stalls with a mark to a common column
 pub verdict-sets : (s u : List ℕ) (n m p q i j : ℕ) (x y : View) → m ≡ n → i ≡ rowPlace n p → j ≡ rowPlace n q
-    → Views n (rowName s i) (rowName u j) n x → Views n (rowName u j) (rowName s i) n y
+    → Views n (rowName s i) (rowName u j) x → Views n (rowName u j) (rowName s i) y
     → (all v e w f : ℕ) → all ≡ bits n (λ r. true)
     → v ≡ without all (x .heard) → e ≡ bits m (λ r. not (eqb (bitAnd (orderAt s m r) (x .common)) 0))
     → w ≡ without all (y .heard) → f ≡ bits m (λ r. not (eqb (bitAnd (orderAt u m r) (y .common)) 0))

@@ -9,8 +9,7 @@ use lib.Dec.{eqb, leb, ltb}
 use lib.Bits.{bitOr}
 use Rattle.image.specs.Layout.{nameFrom}
 use Rattle.image.specs.declared.Name.the-variants.{Never, With}
-use Rattle.image.proofs.Bits.{has-bits}
-use Rattle.image.proofs.Encoding.{bits-agree, bits-none}
+use Rattle.image.proofs.Bits.{has-bits, bits-agree, bits-none}
 use Rattle.image.proofs.StallSets.{or-bits, single-bits}
 use Rattle.merge.specs.Label.{isMeeting}
 use Rattle.merge.specs.LabelSet.{labelSet, hasLabel}

@@ -38,7 +38,7 @@ take-each (suc n) l f a g =
     take-suc l n 0 a
     ∙ ap₂ (λ x y. x ++ y ∷ []) (take-each n l f (omega arith) (λ r b c. g r b (omega arith))) (ap (λ j. getD l j 0) i ∙ g (suc n) (omega arith) (omega arith))
 
-pub orders-in : (s u : List ℕ) (n p q : ℕ) (out : List ℕ) → Ordered s u n p q n out
+pub orders-in : (s u : List ℕ) (n p q : ℕ) (out : List ℕ) → Ordered s u n p q out
     → each n (orderIn out n) ≡ each n (λ r. orderBytes n (bits n (mergedOrder n p (tableOf s n) q (tableOf u n) r)))
 orders-in s u n p q out w = each-agree n _ _ (λ r i j. ap (orderBytes n) (w .right r i j))
 

@@ -1,7 +1,7 @@
 -- Rows, yields and order entries by value: they may be written into the image of a head that met, and what it holds then.
 use Prim.Native.Nat.{ℕ, _-_, _*_, _^_, _≤_, _<_}
 use mathlib.Core.Bool.{Bool}
-use mathlib.Core.Path.{_≡_, sym, ap, _∙_}
+use mathlib.Core.Path.{_≡_, refl, sym, ap, _∙_}
 use mathlib.Core.List.{List, [], _++_, append-assoc}
 use lib.ListN.{length, getD, take, drop}
 use lib.Seq.{length-take-le, drop-append-seam}
@@ -13,17 +13,18 @@ use Rattle.image.proofs.Bits.{bits-lt}
 use Rattle.merge.specs.Merged.{mergedOrder}
 use Rattle.merge.specs.Orders.{Ordered}
 use Rattle.merge.specs.Body.{bodyRow, bodyYield, padded, orderIn, rowIn, imageAfter}
+use Rattle.merge.proofs.Frames.{framed-sized}
 use Rattle.merge.proofs.write.BodyWritten.{rows-long, yields-long, rows-in, yields-in}
 use Rattle.merge.proofs.meeting.AfterMeeting.{orders-in}
 
 module _ (s u : List ℕ) (n p q k : ℕ) (t : ℕ → Bool) (a : Framed s n p) (b : Framed u n q) (rows : List (List ℕ)) (yields orders : List ℕ)
     (rows-are : (r : ℕ) → 1 ≤ r → r ≤ n → getD rows (r - 1) [] ≡ padded n (bodyRow s u n p q k t r)) (yields-are : yields ≡ padded n (each n (bodyYield s u n p q t)))
-    (orders-are : Ordered s u n p q n orders) (m : ℕ) (m-is : m ≡ n) where
+    (orders-are : Ordered s u n p q orders) (m : ℕ) (m-is : m ≡ n) where
   pub may-write : (d : List ℕ) (own : ℕ) → Framed d n own → length rows ≡ largest
       → (Sized d m × (length rows ≡ largest) × ((r : ℕ) → 1 ≤ r → r ≤ m → length (getD rows (r - 1) []) ≡ longestRow)) × ((length yields ≡ longestRow) × (length orders ≡ largest) × ((r : ℕ) → 1 ≤ r → r ≤ m → getD orders (r - 1) 0 < 2 ^ m))
   may-write d own f e =
       rw m-is (
-        (record { n-from = f .n-from; n-to = f .n-to; long = f .long }, e, rows-long s u n p q k t a b rows yields rows-are yields-are),
+        (framed-sized f refl, e, rows-long s u n p q k t a b rows yields rows-are yields-are),
         (yields-long s u n p q k t a b rows yields rows-are yields-are, orders-are .long, λ r i j. rw (orders-are .right r i j) (bits-lt n _)),
       )
 

@@ -10,7 +10,7 @@ use Rattle.image.specs.Stalls.{bits, has, without, bitOf}
 use Rattle.image.specs.Layout.{largest}
 use Rattle.image.specs.Encode.{Table}
 use Rattle.image.specs.Row.{isNever}
-use Rattle.image.proofs.Encoding.{bits-agree}
+use Rattle.image.proofs.Bits.{bits-agree}
 use Rattle.image.proofs.StallSets.{has-at, pick-bits, choice-bits, mask-bits, and-bits, or-bits, without-bits, one-bits}
 use Rattle.merge.specs.declared.Decided.{Decided}
 use Rattle.merge.specs.declared.Sets.{Sets}

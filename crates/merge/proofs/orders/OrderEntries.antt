@@ -21,7 +21,7 @@ fits n f l =
     omega arith
 
 pub ordered : (s u : List ℕ) (n m p q : ℕ) (x : Sets) (out : List ℕ) → m ≡ n → n ≤ largest → Sorted n p (tableOf s n) q (tableOf u n) x
-    → ByStall 0 largest m (λ r. orderOf x r (orderAt s m r) (orderAt u m r) % 65536) out → Ordered s u n p q n out
+    → ByStall 0 largest m (λ r. orderOf x r (orderAt s m r) (orderAt u m r) % 65536) out → Ordered s u n p q out
 unfolding tableOf markAt
 ordered s u n m p q x out e l w at-m =
     let o = rw e at at-m in

@@ -13,7 +13,7 @@ use Rattle.image.proofs.Search.{Looked, looked-start, looked-next, look
 use Rattle.image.proofs.Gather.{Bit, bit-start, bit-next, bit-le}
 use Rattle.image.proofs.Places.{row-within}
 use Rattle.image.proofs.OrderEntry.{order-next, order-within}
-use Rattle.image.proofs.OrderByte.{order-test}
+use Rattle.image.proofs.OrderTest.{order-test}
 use Rattle.image.proofs.marks.bad_orders.Statement.{statement}
 use Rattle.image.proofs.marks.bad_orders.Tie as tie
 

@@ -6,16 +6,14 @@ use native.Mathlib.Omega.{arith}
 use lib.Bits.{bitOr}
 use Rattle.image.specs.Stalls.{some}
 use Rattle.image.specs.Encode.{tableOf}
-use Rattle.image.specs.Frame.{Sized, Framed}
+use Rattle.image.specs.Frame.{Framed}
 use Rattle.merge.specs.Label.{rowHas, lowestFrom, newLabel}
 use Rattle.merge.specs.LabelSet.{labelSet, hasLabel}
+use Rattle.merge.proofs.Frames.{framed-sized}
 use Rattle.merge.proofs.label.Lowest.{lowest-to}
 use Rattle.merge.proofs.label.NewLabel.{label-chosen}
 use Rattle.merge.proofs.label.new_label.Statement.{statement}
 use Rattle.merge.proofs.label.new_label.Tie as tie
-
-sized : {s : List ℕ} {n own m : ℕ} → Framed s n own → m ≡ n → Sized s m
-sized f e = rw e (record { n-from = f .n-from; n-to = f .n-to; long = f .long })
 
 chosen : (s t : List ℕ) (n p q m : ℕ) {r x y : ℕ} → Framed s n p → m ≡ n
     → x ≡ labelSet (λ k. some m (rowHas p q (tableOf s m) k)) → y ≡ labelSet (λ k. some m (rowHas p q (tableOf t m) k))
@@ -32,9 +30,9 @@ new-label-spec =
     (tie.spec
     (λ c κs. tt)
     (λ c κs. let w = c .before .before .before .pre in
-    (sized (w .0) (c .wide .ensures .0), w .0 .own-from, omega (arith, w .0 .own-to), w .1 .own-from, omega (arith, w .1 .own-to)))
+    (framed-sized (w .0) (c .wide .ensures .0), w .0 .own-from, omega (arith, w .0 .own-to), w .1 .own-from, omega (arith, w .1 .own-to)))
     (λ c κs. let w = c .before .before .before .before .pre in
-    (sized (w .1) (c .before .wide .ensures .0), w .0 .own-from, omega (arith, w .0 .own-to), w .1 .own-from, omega (arith, w .1 .own-to)))
+    (framed-sized (w .1) (c .before .wide .ensures .0), w .0 .own-from, omega (arith, w .0 .own-to), w .1 .own-from, omega (arith, w .1 .own-to)))
     (λ c κs. tt)
     (λ c. record { fits = omega (arith, c .lowest-free .ensures, lowest-to 64 0 (hasLabel (bitOr (c .before .before .used-labels .result) (c .before .used-labels2 .result)))) })
     (λ c. chosen (c .before .before .before .before .before .before .args .first .now) (c .before .before .before .before .before .before .args .second .now) _ _ _ _
