@@ -1,4 +1,4 @@
--- Loops that gather the stalls of 1 to n that pass a test into a set, at places two apart.
+-- Loops that gather the stalls of 1 to n that pass a test into a set.
 use Prim.Native.Nat.{ℕ, zero, suc, _+_, _-_, _^_, _≤_, _<_}
 use mathlib.Core.Path.{_≡_, refl, sym, ap, ap₂, _∙_}
 use mathlib.Core.Bool.{Bool, cond}

@@ -1,4 +1,4 @@
--- Well-made tables: the one that says nothing, a milked one, and one that says the same.
+-- Well-made tables: the one that says nothing, and one that says the same as another.
 use Prim.Native.Nat.{ℕ, _≤_}
 use mathlib.Core.Path.{_≡_, refl}
 use mathlib.Core.Bool.{false≢true}

@@ -1,4 +1,4 @@
--- Loops that look whether some of 1 to n passes a test, at places two apart.
+-- Loops that look whether some of 1 to n passes a test, at places one width apart.
 use Prim.Native.Nat.{ℕ, zero, suc, _+_, _-_, _*_, _≤_, _<_}
 use mathlib.Core.Path.{_≡_, refl, sym, ap, ap₂, _∙_}
 use mathlib.Core.Bool.{Bool, false, _||_}

@@ -1,4 +1,4 @@
-// Bytes of an image read as numbers, and the yields among them.
+// Bytes of an image read as numbers, where rows and yields start, and the checks 1, 3 and 4.
 ghost use mathlib.Core.Path.{_≡_};
 ghost use Prim.Native.Nat.{_+_, _-_, _*_, _<_, _≤_};
 ghost use mathlib.Core.Bool.{not};
