@@ -7,6 +7,8 @@ pub mod Places
 pub mod Stages
 pub mod Yields
 pub mod Overwrite
+pub mod Zeros
+pub mod Blocks
 pub mod Has
 pub mod OrderEntry
 pub mod OrderTest

@@ -6,7 +6,7 @@ use native.Mathlib.Omega.{arith}
 use native.Mathlib.Nat.{zero-add}
 use native.Mathlib.Numerals.{add-one}
 use lib.ListN.{length, getD, take, drop, set}
-use lib.Seq.{paste-suc, drop-cons, set-at, append-snoc, drop-length, take-at, drop-append-add, drop-drop}
+use lib.Seq.{sets-eq, paste-suc, drop-cons, set-at, append-snoc, drop-length, take-at, drop-append-add, drop-drop}
 
 -- one byte more
 pub overwrite-next : (d t image : List ℕ) (i : ℕ) → i < length d → i < length t → image ≡ take i t ++ drop i d → set image i (getD t i 0) ≡ take (i + 1) t ++ drop (i + 1) d
@@ -16,6 +16,10 @@ overwrite-next d t image i a b e = rw (add-one, e) (simp zero-add at (paste-suc 
 pub store-next : (d p : List ℕ) (i v : ℕ) → length p ≡ i → i < length d → set (p ++ drop i d) i v ≡ p ++ (v ∷ []) ++ drop (i + 1) d
 store-next d p i v e l =
     rw add-one (ap (λ r. set (p ++ r) i v) (drop-cons d i 0 l) ∙ set-at p _ (drop (suc i) d) v i e ∙ sym (append-snoc p v (drop (suc i) d)))
+
+-- two bytes at a place
+pub store-two : (d : List ℕ) (at x y : ℕ) → at + 2 ≤ length d → set (set d at x) (at + 1) y ≡ take at d ++ (x ∷ y ∷ []) ++ drop (at + 2) d
+store-two d at x y l = let a : at + 1 ≡ suc at = omega arith in rw a (sets-eq (x ∷ y ∷ []) d at l)
 
 -- all of them
 pub overwrite-end : (d t image : List ℕ) (i : ℕ) → length d ≤ i → i ≤ length d → image ≡ take i t ++ drop i d → image ≡ take (length d) t

@@ -16,7 +16,7 @@ use Rattle.line.specs.Asked.{Opened}
 use Rattle.line.specs.declared.frame.Frame.the-variants.{Heard}
 use Rattle.line.proofs.Numbers.{heard-number}
 use Rattle.line.proofs.Replying.{given-bytes, given-byte, stall-of, image-fits, the-image}
-use Rattle.line.proofs.MeetingLine.{take-zeros}
+use Rattle.image.proofs.Zeros.{take-zeros}
 
 module _ (state : List ℕ) (stall : ℕ) where
   pub showing-bad : badStall (headsOf state) stall ≡ true → showing state stall ≡ refusal state 3

@@ -8,8 +8,8 @@ use native.Mathlib.Numerals.{add-one}
 use native.Mathlib.Decide.{decLe}
 use borrow.Author.Tests.{le-leb, lt-leb}
 use lib.Dec.{leb}
-use lib.ListN.{length, getD, take, drop, set, length-append, take-append-drop, drop-of-length-le}
-use lib.Seq.{drop-cons, take-suc, take-length, length-take-le, sets-eq}
+use lib.ListN.{length, getD, take, drop, length-append, take-append-drop, drop-of-length-le}
+use lib.Seq.{drop-cons, take-suc, take-length, length-take-le}
 use Rattle.image.proofs.Has.{flatMap-append, length-flatMap}
 use Rattle.image.proofs.Overwrite.{behind}
 use Rattle.line.specs.Digits.{isDigit, digitValue, allDigits, pairOf, digitsOf}
@@ -85,10 +85,6 @@ each-digit (a ∷ l) (suc i) e k = each-digit l i (go (isDigit a) e) (omega arit
     go : (t : Bool) → (t && allDigits l) ≡ true → allDigits l ≡ true
     go true f = f
     go false f = absurd (true≢false (sym f))
-
--- two bytes at a place
-pub store-two : (d : List ℕ) (at x y : ℕ) → at + 2 ≤ length d → set (set d at x) (at + 1) y ≡ take at d ++ (x ∷ y ∷ []) ++ drop (at + 2) d
-store-two d at x y l = let a : at + 1 ≡ suc at = omega arith in rw a (sets-eq (x ∷ y ∷ []) d at l)
 
 -- the digits of bytes in a row
 pub digits-append : (l m : List ℕ) → digitsOf (l ++ m) ≡ digitsOf l ++ digitsOf m

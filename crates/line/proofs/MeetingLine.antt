@@ -9,17 +9,13 @@ use lib.ListN.{length, take, drop, replicate, length-append, length-drop, length
 use lib.Seq.{length-take-le, take-at}
 use Rattle.image.specs.Layout.{largest, lengthOf, longest}
 use Rattle.image.specs.Check.{badStall}
+use Rattle.image.proofs.Zeros.{take-zeros}
 use Rattle.merge.specs.Call.{MeetingOutcome, meetingCall}
 use Rattle.line.specs.Parlour.{headsOf, slotPlace, imageOf, withImage}
 use Rattle.line.specs.Answer.{refusal, metBy, meetingOf, meeting}
 use Rattle.line.specs.Asked.{Opened, StallOf}
 use Rattle.line.proofs.Numbers.{meeting-code}
 use Rattle.line.proofs.Replying.{image-short, image-fits, the-image, part-long, put-image}
-
-pub take-zeros : (k m : ℕ) → k ≤ m → take {A = ℕ} k (replicate m 0) ≡ replicate k 0
-take-zeros zero m l = refl
-take-zeros (suc k) zero l = absurd (omega arith)
-take-zeros (suc k) (suc m) l = ap (λ r. 0 ∷ r) (take-zeros k m (omega arith))
 
 -- a meeting, refused for its stalls and not
 module _ (state : List ℕ) (p q : ℕ) where

@@ -1,4 +1,4 @@
--- What is written into an image: copies, blocks of one width, and rows, yields and order entries one after the other.
+-- What is written into an image: copies, and rows, yields and order entries one after the other.
 pub mod Copies
 pub mod Written
 pub mod BodyWritten

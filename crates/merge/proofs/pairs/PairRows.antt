@@ -14,7 +14,7 @@ use Rattle.image.proofs.Has.{length-each}
 use Rattle.merge.specs.declared.pairs.Pair.{Pair}
 use Rattle.merge.specs.declared.pairs.Side.{Side}
 use Rattle.merge.specs.Body.{pairAt, pairBytes, padded, mixedPair}
-use Rattle.merge.proofs.write.Copies.{drop-zeros}
+use Rattle.image.proofs.Zeros.{drop-zeros}
 
 -- two functions that agree on 1 to n
 pub each-agree : (n : ℕ) (f g : ℕ → List ℕ) → ((r : ℕ) → 1 ≤ r → r ≤ n → f r ≡ g r) → each n f ≡ each n g

@@ -14,7 +14,7 @@ use Rattle.image.proofs.Has.{length-each}
 use Rattle.image.proofs.Places.{row-within}
 use Rattle.merge.specs.Body.{sourceOf, sourceStall, pairAt, latestPair, bodyRow, bodyYield, padded, rowIn}
 use Rattle.merge.proofs.pairs.PairRows.{each-agree, length-choice, length-padded}
-use Rattle.merge.proofs.write.Written.{length-each-to}
+use Rattle.image.proofs.Blocks.{length-each-to}
 
 -- what stands before the zeros
 pub take-padded : (n : ℕ) (l : List ℕ) → length l ≡ n * 2 → take (n * 2) (padded n l) ≡ l

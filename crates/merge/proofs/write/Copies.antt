@@ -1,5 +1,5 @@
 -- Loops that copy bytes one by one.
-use Prim.Native.Nat.{ℕ, zero, suc, _+_, _-_, _*_, _<_}
+use Prim.Native.Nat.{ℕ, _+_, _*_, _<_}
 use mathlib.Core.Path.{_≡_, ap, _∙_}
 use mathlib.Core.List.{List, _++_}
 use native.Mathlib.Omega.{arith}
@@ -8,6 +8,7 @@ use native.Mathlib.Numerals.{add-one}
 use lib.ListN.{length, getD, take, drop, set, replicate, length-drop}
 use lib.Seq.{paste, paste-suc, getD-drop}
 use Rattle.image.specs.Layout.{longestRow}
+use Rattle.image.proofs.Zeros.{drop-zeros}
 use Rattle.merge.specs.Body.{padded}
 
 -- one byte more at a place
@@ -19,11 +20,6 @@ pub front-next : (d s l : List ℕ) (at i : ℕ) → i < length d → at + i < l
     → set l i (getD s (at + i) 0) ≡ take (i + 1) (drop at s) ++ drop (i + 1) d
 front-next d s l at i a b e =
     rw (add-one, e, ← getD-drop at s i 0) (simp zero-add at (paste-suc d 0 (drop at s) i 0 (omega arith) (omega (arith, length-drop at s))))
-
-pub drop-zeros : (k m : ℕ) → drop {A = ℕ} k (replicate m 0) ≡ replicate (m - k) 0
-drop-zeros zero m = let e : m ≡ m - 0 = omega arith in ap (λ j. replicate {A = ℕ} j 0) e
-drop-zeros (suc k) zero = let e : 0 ≡ 0 - suc k = omega arith in ap (λ j. replicate {A = ℕ} j 0) e
-drop-zeros (suc k) (suc m) = let e : m - k ≡ suc m - suc k = omega arith in drop-zeros k m ∙ ap (λ j. replicate {A = ℕ} j 0) e
 
 pub front-end : (s l : List ℕ) (at i n : ℕ) → i ≡ n * 2 → l ≡ take i (drop at s) ++ drop i (replicate longestRow 0) → l ≡ padded n (take (n * 2) (drop at s))
 front-end s l at i n e g =

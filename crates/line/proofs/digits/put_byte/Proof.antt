@@ -5,7 +5,7 @@ use mathlib.Core.Path.{ap₂, _∙_}
 use lib.ListN.{take, drop, length-set}
 use borrow.Author.Needs.{needs}
 use native.Mathlib.Omega.{arith}
-use Rattle.line.proofs.Hexadecimal.{store-two}
+use Rattle.image.proofs.Overwrite.{store-two}
 use borrow.Author.Needs.{needs}
 use Rattle.line.proofs.digits.put_byte.Statement.{statement}
 use Rattle.line.proofs.digits.put_byte.Tie as tie

@@ -5,7 +5,8 @@ use mathlib.Core.List.{List, _++_}
 use lib.ListN.{length, take, drop, replicate, length-set}
 use native.Mathlib.Omega.{arith}
 use Rattle.image.specs.Layout.{longest}
-use Rattle.merge.proofs.write.Copies.{front-next, drop-zeros}
+use Rattle.image.proofs.Zeros.{drop-zeros}
+use Rattle.merge.proofs.write.Copies.{front-next}
 use Rattle.line.proofs.parlour.image_at.Statement.{statement}
 use Rattle.line.proofs.parlour.image_at.Tie as tie
 

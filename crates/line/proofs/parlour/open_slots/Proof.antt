@@ -4,7 +4,7 @@ use mathlib.Core.Path.{_≡_, refl, _∙_}
 use lib.ListN.{length}
 use native.Mathlib.Omega.{arith}
 use Rattle.image.specs.Layout.{largest, longest}
-use Rattle.merge.proofs.write.Written.{blocks, blocks-start, blocks-end}
+use Rattle.image.proofs.Blocks.{blocks, blocks-start, blocks-end}
 use Rattle.line.specs.Parlour.{freshSlot}
 use Rattle.line.proofs.Slots.{slot-long, slots-next, slots-whole}
 use Rattle.line.proofs.parlour.open_slots.Statement.{statement}

@@ -7,7 +7,8 @@ use Rattle.image.specs.Layout.{orderWidth, ordersPlace, orderPlace}
 use Rattle.image.proofs.OrderEntry.{order-put, entry-within, entry-next}
 use Rattle.image.proofs.Places.{orders-from}
 use Rattle.merge.specs.Body.{orderIn}
-use Rattle.merge.proofs.write.Written.{blocks, blocks-start, order-small, orders-next, orders-end}
+use Rattle.image.proofs.Blocks.{blocks, blocks-start}
+use Rattle.merge.proofs.write.Written.{order-small, orders-next, orders-end}
 use Rattle.merge.proofs.write.write_orders.Statement.{statement}
 use Rattle.merge.proofs.write.write_orders.Tie as tie
 

@@ -4,7 +4,8 @@ use mathlib.Core.Path.{_≡_, refl}
 use native.Mathlib.Omega.{arith}
 use lib.ListN.{length}
 use Rattle.merge.specs.Body.{rowIn}
-use Rattle.merge.proofs.write.Written.{blocks, blocks-start, blocks-end, row-long, row-fits, rows-next}
+use Rattle.image.proofs.Blocks.{blocks, blocks-start, blocks-end}
+use Rattle.merge.proofs.write.Written.{row-long, row-fits, rows-next}
 use Rattle.merge.proofs.write.write_rows.Statement.{statement}
 use Rattle.merge.proofs.write.write_rows.Tie as tie
 
