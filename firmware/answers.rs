@@ -1,6 +1,6 @@
 //! The line program of document 01 in plain Rust, over the model: what each line is answered.
 
-use crate::model::{self, Table};
+use crate::model::{self, Table, NOT_MILKED};
 
 /// A line that has a meaning.
 enum Frame {
@@ -42,6 +42,15 @@ impl Answer {
     pub fn fits(&self, written: &[u8]) -> bool {
         written == self.text
             || self.records && written.len() == self.text.len() && by_stall(written) == self.text
+    }
+
+    /// Whether it is a heard list with a cow that gave nothing beside a head that was not milked.
+    pub fn shows_dry_and_not_milked(&self) -> bool {
+        let shows = |value: u16| {
+            let value = digits(&value.to_be_bytes());
+            self.text[4..].chunks(6).any(|record| record[2..] == value)
+        };
+        self.records && shows(0) && shows(NOT_MILKED)
     }
 }
 

@@ -1,7 +1,7 @@
 //! The calls on one image, each made in the library and in the model. The first difference ends the
 //! run. Every run is lent in a heap block of exactly its length.
 
-use crate::model;
+use crate::model::{self, Table};
 use std::collections::BTreeMap;
 use std::process::exit;
 
@@ -31,7 +31,7 @@ impl Counts {
         self.add_number(kind, number);
     }
 
-    fn add_number(&mut self, kind: &'static str, number: u32) {
+    pub fn add_number(&mut self, kind: &'static str, number: u32) {
         self.0.entry(kind).or_default()[number as usize] += 1;
     }
 
@@ -50,6 +50,13 @@ impl Counts {
         }
     }
 
+    /// Ends the run unless yields in each place were taken, and refused in each way that there is.
+    pub fn require_yields(&self) {
+        self.require("current yields", [0, 4]);
+        self.require("yields of heard stalls", [0, 4]);
+        self.require("yields never heard", [0, 4, 5]);
+    }
+
     /// Ends the run if one of these numbers never came up.
     pub fn require(&self, kind: &str, numbers: impl IntoIterator<Item = usize>) {
         for number in numbers {
@@ -58,6 +65,16 @@ impl Counts {
                 exit(1);
             }
         }
+    }
+}
+
+/// What calls on a table with another yield in this place (0: the current one, r: that of stall r)
+/// are counted as.
+pub fn yields_at(table: &Table, place: usize) -> &'static str {
+    match place {
+        0 => "current yields",
+        r if table.heard(r) => "yields of heard stalls",
+        _ => "yields never heard",
     }
 }
 

@@ -1,10 +1,12 @@
-/* The examples of document 01, on the functions of wilbryn.h. Every run is lent in a heap block of
-   exactly its length. The first difference ends the run. */
+/* The examples of document 01 with request 2026-01, on the functions of wilbryn.h. Every run is
+   lent in a heap block of exactly its length. The first difference ends the run. */
 #include "wilbryn.h"
 
 #include <stdio.h>
 #include <stdlib.h>
 #include <string.h>
+
+_Static_assert(WILBRYN_NOT_MILKED == 0xffff, "not milked is ffff");
 
 struct run {
     uint8_t *bytes;
@@ -93,6 +95,8 @@ static void fresh(uint32_t wanted, struct run image, uint8_t n, uint8_t stall) {
         memset(after.bytes, 0, after.len);
         after.bytes[0] = n;
         after.bytes[1] = stall;
+        memset(after.bytes + 2, 0xff, 2);
+        memset(after.bytes + 4 + 2 * n * n, 0xff, 2 * n);
     }
     expect(FRESH, wanted, wilbryn_fresh(image.bytes, image.len, n, stall), &before, 1);
     expect_bytes("image", after, image);
@@ -100,12 +104,14 @@ static void fresh(uint32_t wanted, struct run image, uint8_t n, uint8_t stall) {
     give_back(after);
 }
 
+static void put_yield(struct run image, size_t at, uint16_t yield) {
+    image.bytes[at] = (uint8_t)(yield / 256);
+    image.bytes[at + 1] = (uint8_t)(yield % 256);
+}
+
 static void milking(uint32_t wanted, struct run image, uint16_t yield) {
     struct run before = copy(image), after = copy(image);
-    if (wanted == 0) {
-        after.bytes[2] = (uint8_t)(yield / 256);
-        after.bytes[3] = (uint8_t)(yield % 256);
-    }
+    if (wanted == 0) put_yield(after, 2, yield);
     expect(MILKING, wanted, wilbryn_milking(image.bytes, image.len, yield), &before, 1);
     expect_bytes("image", after, image);
     give_back(before);
@@ -164,7 +170,8 @@ static void meeting_refused(uint32_t number, struct run first, struct run second
     give_back(unchanged);
 }
 
-/* The refusals 1 to 6. The first of each number is document 01's own example; 0 is accepted. */
+/* The refusals 1 to 6. The first of each number is document 01's own example; alone: with no other
+   fault; 0 is accepted. */
 static const struct {
     const char *what, *image;
     uint32_t number;
@@ -173,27 +180,46 @@ static const struct {
     {"empty", "", 1},
     {"N = 9", "09", 1},
     {"too short", "0201", 2},
-    {"too long", "0201 0000 00000000 00000000 00000000 0000 00", 2},
+    {"too long", "0201 ffff 00000000 00000000 ffffffff 0000 00", 2},
     {"own stall 3", "0203 0000 00000000 00000000 00000000 0000", 3},
-    {"own stall 0", "0200 0000 00000000 00000000 00000000 0000", 3},
+    {"own stall 3 alone", "0203 ffff 00000000 00000000 ffffffff 0000", 3},
+    {"own stall 0", "0200 ffff 00000000 00000000 ffffffff 0000", 3},
     {"current yield 1000", "0201 03e8 00000000 00000000 00000000 0000", 4},
-    {"current yield 999", "0201 03e7 00000000 00000000 00000000 0000", 0},
+    {"current yield 1000 alone", "0201 03e8 00000000 00000000 ffffffff 0000", 4},
+    {"current yield fe00", "0201 fe00 00000000 00000000 ffffffff 0000", 4},
+    {"current yield fffe", "0201 fffe 00000000 00000000 ffffffff 0000", 4},
+    {"current yield not milked", "0201 ffff 00000000 00000000 ffffffff 0000", 0},
+    {"current yield 999", "0201 03e7 00000000 00000000 ffffffff 0000", 0},
+    {"current yield 0", "0201 0000 00000000 00000000 ffffffff 0000", 0},
     {"stall yield 1000", "0201 0000 02000100 02000100 000003e8 0303", 4},
+    {"stall yield fe00", "0201 0000 02000100 02000100 0000fe00 0303", 4},
+    {"stall yield fffe", "0201 0000 02000100 02000100 0000fffe 0303", 4},
+    {"stall yield not milked", "0201 0000 02000100 02000100 0000ffff 0303", 0},
     {"stall yield 999", "0201 0000 02000100 02000100 000003e7 0303", 0},
+    {"own stall yield not milked", "0201 0000 02000100 02000100 ffff0000 0303", 0},
+    {"never heard, yield 1000", "0201 0000 02000000 00000000 000003e8 0100", 4},
+    {"never heard, yield fe00", "0201 0000 02000000 00000000 0000fe00 0100", 4},
+    {"never heard, yield fffe", "0201 0000 02000000 00000000 0000fffe 0100", 4},
+    {"never heard, not milked", "0201 0000 02000000 00000000 0000ffff 0100", 0},
     {"partner is the column", "0201 0000 01000000 00000000 00000000 0000", 5},
-    {"label without partner", "0201 0000 00010000 00000000 00000000 0000", 5},
+    {"partner is the column alone", "0201 ffff 01000000 00000000 ffffffff 0100", 5},
+    {"label without partner", "0201 ffff 00010000 00000000 ffffffff 0000", 5},
     {"partner above N", "0201 0000 03000100 02000100 00000000 0303", 5},
     {"row 2, column 2 not the own", "0201 0000 02000100 02000101 00000000 0303", 5},
-    {"name in a row never heard", "0201 0000 02000000 02000000 00000000 0100", 5},
-    {"own row without own stall", "0201 0000 00000100 02000100 00000000 0003", 5},
-    {"yield never heard", "0201 0000 00000000 00000000 00000001 0000", 5},
-    {"mark never heard", "0201 0000 00000000 00000000 00000000 0001", 6},
+    {"name in a row never heard", "0201 0000 02000000 02000000 0000ffff 0100", 5},
+    {"own row without own stall", "0201 0000 00000100 02000100 ffff0000 0003", 5},
+    {"never heard, yield 999", "0201 0000 02000000 00000000 000003e7 0100", 5},
+    {"never heard, yield 1", "0201 0000 02000000 00000000 00000001 0100", 5},
+    {"never heard, yield 0", "0201 0000 02000000 00000000 00000000 0100", 5},
+    {"fresh, but stall 2 has yield 0", "0201 ffff 00000000 00000000 ffff0000 0000", 5},
+    {"fresh, but its stall has yield 0", "0201 ffff 00000000 00000000 0000ffff 0000", 5},
+    {"mark never heard", "0201 ffff 00000000 00000000 ffffffff 0001", 6},
     {"mark above N", "0201 0000 02000100 02000100 00000000 0703", 6},
     {"heard without (r, r)", "0201 0000 02000100 02000100 00000000 0301", 6},
     {"heard without (r, own)", "0201 0000 02000100 02000100 00000000 0302", 6},
     {"heard with the least marks", "0201 0000 02000100 02000100 00000000 0103", 0},
-    {"N = 3, label 12", "0301 0000 020c010c0000 020c010c0000 000000000000 000000000000 030300", 0},
-    {"N = 3, label 13", "0301 0000 020d010d0000 020d010d0000 000000000000 000000000000 030300", 5},
+    {"N = 3, label 12", "0301 0000 020c010c0000 020c010c0000 000000000000 00000000ffff 030300", 0},
+    {"N = 3, label 13", "0301 0000 020d010d0000 020d010d0000 000000000000 00000000ffff 030300", 5},
 };
 
 enum { IMAGES = sizeof images / sizeof images[0] };
@@ -233,32 +259,40 @@ static void try_fresh(void) {
     give_back(image);
 }
 
+static void refuse_milkings(struct run image) {
+    milking(4, image, 1000);
+    milking(4, image, 0xfe00);
+    milking(4, image, 0xfffe);
+    milking(4, image, 0xffff);
+}
+
 static void try_milking(void) {
     doing = "milking";
     struct run image = lend(18);
     fresh(0, image, 2, 1);
+    refuse_milkings(image);
     milking(0, image, 18);
-    expect_hex("image", "0201 0012 00000000 00000000 00000000 0000", image);
+    expect_hex("image", "0201 0012 00000000 00000000 ffffffff 0000", image);
     milking(0, image, 999);
-    milking(4, image, 1000);
-    milking(4, image, 65535);
+    refuse_milkings(image);
     milking(0, image, 0);
+    expect_hex("image", "0201 0000 00000000 00000000 ffffffff 0000", image);
     give_back(image);
 }
 
 /* What the listing leaves, by stall. Document 01 shows the last; by its rules head 2 differs from
    that in the stall alone, and head 1 has what the first meeting left. */
 static const char *const listing[] = {
-    "0301 0012 020001000000 020001000000 000000000000 001200000000 030300",
-    "0302 0000 020001000000 020003000200 020003000200 001200000000 070606",
-    "0303 0000 020001000000 020003000200 020003000200 001200000000 070606",
+    "0301 0012 020001000000 020001000000 000000000000 0012ffffffff 030300",
+    "0302 ffff 020001000000 020003000200 020003000200 0012ffffffff 070606",
+    "0303 ffff 020001000000 020003000200 020003000200 0012ffffffff 070606",
 };
 
 static void try_heard(void) {
     doing = "the heard lists of the listing";
     struct run first = from_hex(listing[0]), last = from_hex(listing[2]);
-    heard(2, first, 9, "010012 020000");
-    heard(3, last, 9, "010012 020000 030000");
+    heard(2, first, 9, "010012 02ffff");
+    heard(3, last, 9, "010012 02ffff 03ffff");
     heard(256 + 8, last, 8, "");
     heard(256 + 8, last, 10, "");
     give_back(last);
@@ -339,9 +373,97 @@ static void try_listing(void) {
     shut(parlour);
 }
 
+/* What heads 1 and 3 have after they met below, by the rules of document 01. */
+static const char *const milked_late[] = {
+    "0401 0000 0300030001000000 0200030002000000 0300030001000000 0000000000000000 "
+    "00000007ffffffff 05070500",
+    "0403 ffff 0300030001000000 0200030002000000 0300030001000000 0000000000000000 "
+    "00000007ffffffff 05070500",
+};
+
+/* Head 1 meets before it is milked, and head 3 hears of it from head 2; then it is milked with 0.
+   Head 3 is never milked, and head 4 hears of it from head 1. */
+static void try_not_milked(void) {
+    doing = "a head that meets before it is milked";
+    struct parlour parlour = open(4);
+    struct run *images = parlour.images;
+    struct run verdicts[] = {from_hex("00000000"), from_hex("02020000"), from_hex("00020200"),
+                             from_hex("01010100")};
+    milking(0, images[2], 7);
+    meeting(0, images[1], images[2], verdicts[0]);
+    heard(2, images[2], 12, "01ffff 020007");
+    meeting(0, images[3], images[2], verdicts[1]);
+    heard(3, images[3], 12, "01ffff 020007 03ffff");
+    milking(0, images[1], 0);
+    heard(2, images[1], 12, "01ffff 020007");
+    meeting(0, images[1], images[3], verdicts[2]);
+    expect_hex("image 1", milked_late[0], images[1]);
+    expect_hex("image 3", milked_late[1], images[3]);
+    heard(3, images[3], 12, "010000 020007 03ffff");
+    meeting(0, images[1], images[4], verdicts[3]);
+    heard(4, images[4], 12, "010000 020007 03ffff 04ffff");
+    for (int i = 0; i < 4; i++) give_back(verdicts[i]);
+    shut(parlour);
+}
+
+/* No list leaves these images; not milked takes the place of a number all the same. */
+static void try_not_milked_after(void) {
+    doing = "heads that are not milked where their stalls were";
+    struct run first = from_hex("0201 ffff 02000100 02000100 00050007 0303");
+    struct run second = from_hex("0202 ffff 02000100 02000100 00050007 0303");
+    struct run none_newer = from_hex("0000");
+    meeting(1, first, second, none_newer);
+    expect_hex("the first", "0201 ffff 02010101 02010101 ffffffff 0303", first);
+    give_back(none_newer);
+    give_back(second);
+    give_back(first);
+}
+
+/* The number for an image with this yield for a stall heard, or for one never heard. The current
+   yield is refused as that of a stall heard. */
+static const struct {
+    uint16_t yield;
+    uint32_t heard, never_heard;
+} yields[] = {
+    {0, 0, 5},      {1, 0, 5},      {999, 0, 5},    {1000, 4, 4},
+    {0x7fff, 4, 4}, {0xfe00, 4, 4}, {0xfffe, 4, 4}, {0xffff, 0, 0},
+};
+
+enum { YIELDS = sizeof yields / sizeof yields[0] };
+
+static void try_yields_at(struct run image, size_t at, int is_heard) {
+    struct run changed = copy(image);
+    for (int i = 0; i < YIELDS; i++) {
+        put_yield(changed, at, yields[i].yield);
+        check(is_heard ? yields[i].heard : yields[i].never_heard, changed);
+    }
+    give_back(changed);
+}
+
+/* In each place of the image of head 1, which has met one other. */
+static void try_yields_after(uint8_t n, uint8_t other) {
+    struct parlour parlour = open(n);
+    struct run image = parlour.images[1], verdicts = lend(n);
+    memset(verdicts.bytes, 0, n);
+    meeting(0, image, parlour.images[other], verdicts);
+    try_yields_at(image, 2, 1);
+    for (uint8_t r = 1; r <= n; r++) {
+        try_yields_at(image, 2 + 2 * n * n + 2 * r, r == 1 || r == other);
+    }
+    give_back(verdicts);
+    shut(parlour);
+}
+
+static void try_yields(void) {
+    doing = "a yield in each place";
+    for (uint8_t n = 2; n <= 8; n++) {
+        for (uint8_t other = 2; other <= n; other++) try_yields_after(n, other);
+    }
+}
+
 static void try_images_in_meetings(void) {
-    struct run good = from_hex("0202 0000 00000000 00000000 00000000 0000");
-    struct run one = from_hex("01"), marks = from_hex("0201 0000 00000000 00000000 00000000 0001");
+    struct run good = from_hex("0202 ffff 00000000 00000000 ffffffff 0000");
+    struct run one = from_hex("01"), marks = from_hex("0201 ffff 00000000 00000000 ffffffff 0001");
     for (int i = 0; i < IMAGES; i++) {
         doing = images[i].what;
         uint32_t number = images[i].number;
@@ -360,8 +482,8 @@ static void try_images_in_meetings(void) {
 }
 
 static void try_pairs(void) {
-    struct run fresh1 = from_hex("0201 0000 00000000 00000000 00000000 0000");
-    struct run fresh2 = from_hex("0202 0000 00000000 00000000 00000000 0000");
+    struct run fresh1 = from_hex("0201 ffff 00000000 00000000 ffffffff 0000");
+    struct run fresh2 = from_hex("0202 ffff 00000000 00000000 ffffffff 0000");
     struct run again1 = copy(fresh1);
     struct run of3 = lend(WILBRYN_IMAGE_LENGTH(3));
     fresh(0, of3, 3, 2);
@@ -392,6 +514,9 @@ int main(void) {
     try_heard();
     try_lists();
     try_listing();
+    try_not_milked();
+    try_not_milked_after();
+    try_yields();
     try_images_in_meetings();
     try_pairs();
     printf("check.c: as document 01 says:");

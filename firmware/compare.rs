@@ -7,7 +7,8 @@ mod images;
 mod model;
 
 use calls::{share_of, Counts};
-use images::Random;
+use images::{Random, EDGES};
+use model::{Name, Table};
 
 const SEED: u64 = 0x5eed_0001;
 
@@ -16,7 +17,7 @@ fn image(random: &mut Random) -> Vec<u8> {
     let n = random.size();
     let stall = random.stall(n);
     let mut image = match random.below(8) {
-        0 => model::Table::fresh(n, stall).to_bytes(),
+        0 => Table::fresh(n, stall).to_bytes(),
         _ => images::accepted(random, n, stall).to_bytes(),
     };
     match random.below(10) {
@@ -27,16 +28,18 @@ fn image(random: &mut Random) -> Vec<u8> {
     image
 }
 
-/// Bytes that no head wrote; with a good start and length often enough.
+/// Bytes that no head wrote; with a good start and length often enough, and most others as in a fresh
+/// image.
 fn any_bytes(random: &mut Random) -> Vec<u8> {
     let n = random.pick(&[0, 1, 2, 3, 4, 5, 6, 7, 8, 9, 255]);
     let len = if random.percent(60) { model::length(n) } else { random.below(200) };
     let mut image = random.bytes(len);
+    let fresh = if (2..=8).contains(&n) { Table::fresh(n, 1).to_bytes() } else { vec![] };
     for (at, byte) in image.iter_mut().enumerate() {
         match at {
             0 => *byte = n as u8,
             1 => *byte = random.below(10) as u8,
-            _ if random.percent(90) => *byte = 0,
+            _ if random.percent(90) => *byte = fresh.get(at).copied().unwrap_or(0),
             _ => (),
         }
     }
@@ -62,6 +65,52 @@ fn fresh(random: &mut Random, counts: &mut Counts) {
     calls::fresh(counts, &before, n as u8, stall as u8);
 }
 
+/// The check of an image that has this yield in this place; answers the image.
+fn check_yield(counts: &mut Counts, table: &Table, place: usize, new: u16) -> Vec<u8> {
+    let mut changed = table.clone();
+    images::put_yield(&mut changed, place, new);
+    let image = changed.to_bytes();
+    let number = calls::check(counts, &image);
+    counts.add_number(calls::yields_at(table, place), number);
+    image
+}
+
+/// Each yield at an edge in each place of a table.
+fn edges_of(random: &mut Random, counts: &mut Counts, table: &Table) {
+    for place in 0..=table.n {
+        for new in EDGES {
+            let mut image = check_yield(counts, table, place, new);
+            calls::heard(counts, &image, &random.bytes(3 * table.n));
+            calls::milking(counts, &mut image, random.pick(&EDGES));
+        }
+    }
+}
+
+/// Fresh and other accepted images of every size, so often, with each yield at an edge.
+fn edges(random: &mut Random, counts: &mut Counts, rounds: usize) {
+    for n in 2..=8 {
+        for _ in 0..rounds {
+            let stall = random.stall(n);
+            let other = images::accepted(random, n, stall);
+            edges_of(random, counts, &Table::fresh(n, stall));
+            edges_of(random, counts, &other);
+        }
+    }
+}
+
+/// Every yield: milked, and in each place of an image whose head has heard of itself alone.
+fn all_yields(counts: &mut Counts) {
+    let mut table = Table::fresh(2, 1);
+    table.rows[1][1] = Name { partner: 2, label: 0 };
+    table.set_mark(1, 1);
+    for new in (0..=u16::MAX).filter(|new| share_of(65_536) == 65_536 || new % 997 < 3) {
+        calls::milking(counts, &mut Table::fresh(2, 1).to_bytes(), new);
+        for place in 0..=2 {
+            check_yield(counts, &table, place, new);
+        }
+    }
+}
+
 fn main() {
     println!("compare: seed {SEED:#x}");
     let mut random = Random(SEED);
@@ -76,12 +125,12 @@ fn main() {
         calls::milking(&mut counts, &mut image, random.any_yield());
         fresh(&mut random, &mut counts);
     }
-    for new in (0..=u16::MAX).filter(|new| share_of(65_536) == 65_536 || new % 997 < 3) {
-        calls::milking(&mut counts, &mut model::Table::fresh(2, 1).to_bytes(), new);
-    }
+    edges(&mut random, &mut counts, share_of(50).max(1));
+    all_yields(&mut counts);
     counts.print();
     counts.require("fresh", 0..=3);
     counts.require("check", 0..=6);
     counts.require("milking", 0..=6);
     counts.require("heard", (0..=6).chain([8]));
+    counts.require_yields();
 }

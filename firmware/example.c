@@ -1,5 +1,5 @@
-/* Two heads of a parlour of three over wilbryn.h: each is milked, they meet, and both say what they
-   then hold. Head 3 is out of range, so neither hears of it. */
+/* Two heads of a parlour of three over wilbryn.h: they meet before and after the second is milked,
+   and say what they then hold. Head 3 is out of range, so neither hears of it. */
 #include "wilbryn.h"
 
 #include <stdio.h>
@@ -49,19 +49,26 @@ static void meet(struct head *first, struct head *second) {
     }
 }
 
+/* A cow that gave nothing gave 0 dl, which is not the same as a stall that was not milked. */
+static void show_record(const uint8_t *record) {
+    unsigned yield = record[1] * 256u + record[2];
+    if (yield == WILBRYN_NOT_MILKED) {
+        printf("  stall %d was not milked\n", record[0]);
+    } else {
+        printf("  stall %d gave %u dl\n", record[0], yield);
+    }
+}
+
 /* The records come in any order, so they are put by stall before they are shown. */
 static void show(const struct head *head) {
     uint8_t records[3 * STALLS];
-    int yields[STALLS];
+    const uint8_t *of_stall[STALLS] = {NULL};
     uint32_t answer = wilbryn_heard(head->image, sizeof head->image, records, sizeof records);
     must(answer < WILBRYN_REFUSED, "a heard list", answer);
-    for (int i = 0; i < STALLS; i++) yields[i] = -1;
-    for (const uint8_t *r = records; r < records + 3 * answer; r += 3) {
-        yields[r[0] - 1] = r[1] * 256 + r[2];
-    }
+    for (const uint8_t *r = records; r < records + 3 * answer; r += 3) of_stall[r[0] - 1] = r;
     printf("head %d has heard of %u stalls\n", head->image[1], answer);
     for (int i = 0; i < STALLS; i++) {
-        if (yields[i] >= 0) printf("  stall %d gave %d dl\n", i + 1, yields[i]);
+        if (of_stall[i] != NULL) show_record(of_stall[i]);
     }
 }
 
@@ -70,14 +77,13 @@ int main(void) {
     start(&one, 1);
     start(&two, 2);
     milk(&one, 183);
-    milk(&two, 241);
-    milk(&two, 1000);
+    milk(&one, 1000);
     meet(&one, &two);
     /* What is milked after a meeting the other hears of only at the next one. */
-    milk(&one, 96);
+    milk(&two, 0);
     show(&one);
     show(&two);
     meet(&two, &one);
-    show(&two);
+    show(&one);
     return 0;
 }

@@ -1,6 +1,6 @@
 //! What a list leaves, read from its items alone: no image and no answer is looked at here.
 
-use crate::model::{Name, Table, NONE};
+use crate::model::{Name, Table, NONE, NOT_MILKED};
 use std::cmp::Ordering;
 
 /// How a history knows what lies in a past.
@@ -38,12 +38,13 @@ pub struct History {
     events: Vec<Event>,
     /// The last meeting of each head.
     last: [Option<usize>; 9],
+    /// The yield of each head's last milking that counts, or not milked.
     current: [u16; 9],
 }
 
 impl History {
     pub fn new(n: usize, pasts: Pasts) -> History {
-        History { n, pasts, events: Vec::new(), last: [None; 9], current: [0; 9] }
+        History { n, pasts, events: Vec::new(), last: [None; 9], current: [NOT_MILKED; 9] }
     }
 
     pub fn milking(&mut self, stall: usize, new: u16) {
@@ -134,7 +135,8 @@ impl History {
         Name { partner: if r == a { b } else { a } as u8, label }
     }
 
-    /// The table that a head has at the end of the list.
+    /// The table that a head has at the end of the list. Of a stall never heard it has what a fresh
+    /// one has.
     pub fn table(&self, head: usize) -> Table {
         let mut table = Table::fresh(self.n, head);
         table.current = self.current[head];

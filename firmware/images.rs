@@ -1,6 +1,13 @@
 //! Random images: accepted ones that come from no list, related pairs of them, and damaged ones.
 
-use crate::model::{label_limit, length, Name, Table, NONE};
+use crate::model::{label_limit, length, Name, Table, NONE, NOT_MILKED};
+
+/// Yields on both sides of each limit, and those that a reader of one byte, of a signed number or of
+/// the low byte first takes for others.
+pub const EDGES: [u16; 18] = [
+    0, 1, 255, 256, 998, 999, 1000, 1001, 0x03ff, 0x0400, 0x0fe7, 0x7fff, 0x8000, 0xe703, 0xfe00,
+    0xff00, 0xfffe, 0xffff,
+];
 
 /// Splitmix64.
 pub struct Random(pub u64);
@@ -46,7 +53,7 @@ impl Random {
         (stall + self.below(n - 1)) % n + 1
     }
 
-    /// A yield that is taken.
+    /// A yield that a milking may bring.
     pub fn good_yield(&mut self) -> u16 {
         match self.below(8) {
             0 => 999,
@@ -56,11 +63,21 @@ impl Random {
         }
     }
 
-    /// Any yield, often close to the limit.
+    /// A yield that an accepted image may have, its current one or a heard stall's.
+    fn image_yield(&mut self) -> u16 {
+        if self.percent(20) {
+            NOT_MILKED
+        } else {
+            self.good_yield()
+        }
+    }
+
+    /// Any yield, often close to a limit.
     pub fn any_yield(&mut self) -> u16 {
-        match self.below(4) {
+        match self.below(6) {
             0 => 990 + self.below(20) as u16,
             1 => self.next() as u16,
+            2 | 3 => self.pick(&EDGES),
             _ => self.good_yield(),
         }
     }
@@ -94,10 +111,10 @@ fn fill(random: &mut Random, table: &mut Table, style: &Style) {
     table.rows = [[NONE; 9]; 9];
     table.rows[table.stall] = own;
     table.order = [0; 9];
-    table.yields = [0; 9];
-    table.current = random.good_yield();
+    table.yields = [NOT_MILKED; 9];
+    table.current = random.image_yield();
     for s in (1..=n).filter(|&s| own[s] != NONE) {
-        table.yields[s] = random.good_yield();
+        table.yields[s] = random.image_yield();
         for r in (1..=n).filter(|_| s != table.stall) {
             let draw = random.percent(style.named);
             table.rows[s][r] = if draw { name(random, n, r, style.labels) } else { NONE };
@@ -238,6 +255,14 @@ pub fn shaken(random: &mut Random, table: &Table) -> Table {
         }
     }
     shaken
+}
+
+/// Puts another yield in one place of a table: 0 is for the current one, r for that of stall r.
+pub fn put_yield(table: &mut Table, place: usize, new: u16) {
+    match place {
+        0 => table.current = new,
+        r => table.yields[r] = new,
+    }
 }
 
 /// Damages an image in one to three places.

@@ -38,6 +38,7 @@ struct Test {
     sessions: usize,
     lines: usize,
     by_number: [usize; 12],
+    dry_and_not_milked: usize,
 }
 
 impl Test {
@@ -48,10 +49,14 @@ impl Test {
 
     fn count(&mut self, expected: &[Answer]) {
         self.lines += expected.len();
-        expected.iter().for_each(|answer| self.by_number[answer.number as usize] += 1);
+        for answer in expected {
+            self.by_number[answer.number as usize] += 1;
+            self.dry_and_not_milked += answer.shows_dry_and_not_milked() as usize;
+        }
     }
 
-    /// Ends the run if one of the numbers that a line can be answered never came up.
+    /// Ends the run if one of the numbers that a line can be answered never came up, or no heard list
+    /// had 0 beside not milked.
     fn print(&self) {
         println!("  {} sessions, {} lines; how often each number:", self.sessions, self.lines);
         for (number, count) in self.by_number.iter().enumerate().filter(|(_, &count)| count > 0) {
@@ -59,6 +64,10 @@ impl Test {
         }
         if let Some(number) = [0, 1, 3, 4, 7, 10, 11].iter().find(|&&n| self.by_number[n] == 0) {
             self.fail("all sessions", &format!("number {number} never came up"));
+        }
+        println!("  {} heard lists with 0 beside not milked", self.dry_and_not_milked);
+        if self.dry_and_not_milked == 0 {
+            self.fail("all sessions", "0 beside not milked never came up");
         }
         println!("  no difference");
     }
@@ -268,7 +277,7 @@ fn memory(test: &mut Test, random: &mut Random) {
 fn main() {
     let path = std::env::args().nth(1).expect("the path of a line program");
     println!("lines: {path}, seed {SEED:#x}");
-    let mut test = Test { path, sessions: 0, lines: 0, by_number: [0; 12] };
+    let mut test = Test { path, sessions: 0, lines: 0, by_number: [0; 12], dry_and_not_milked: 0 };
     let mut random = Random(SEED);
     examples(&mut test);
     for stored in std::env::args().skip(2) {

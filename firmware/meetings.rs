@@ -11,7 +11,7 @@ mod parlour;
 
 use calls::{hex, share_of, Run};
 use history::{History, Pasts};
-use images::Random;
+use images::{Random, EDGES};
 use model::Table;
 use pairs::{next_pair, Way, WAYS};
 use parlour::{buffer, Parlour, Seen};
@@ -97,6 +97,19 @@ fn mismatch(random: &mut Random, first: &[u8]) -> Table {
     let n = if same_n { first[0] as usize } else { random.size() };
     let stall = if same_n { first[1] as usize } else { random.stall(n) };
     images::accepted(random, n, stall)
+}
+
+/// Images from no list, one of them with a yield at an edge in one place.
+fn edges(random: &mut Random, seen: &mut Seen, steps: usize) {
+    for _ in 0..steps {
+        let (mut first, mut second) = images::related(random);
+        let verdicts = buffer(random, first.n, 3);
+        let one = if random.percent(50) { &mut first } else { &mut second };
+        let place = random.below(one.n + 1);
+        images::put_yield(one, place, random.pick(&EDGES));
+        let kind = calls::yields_at(one, place);
+        seen.meet(kind, &first.to_bytes(), &second.to_bytes(), &verdicts);
+    }
 }
 
 /// Lists of every size against their whole history: each answer, and each byte of each image.
@@ -191,11 +204,12 @@ fn history_meeting(
 
 fn main() {
     let mut seen = Seen::default();
-    let parts: [(&str, u64, usize, fn(&mut Random, &mut Seen, usize)); 6] = [
+    let parts: [(&str, u64, usize, fn(&mut Random, &mut Seen, usize)); 7] = [
         ("two moments of a list", 0x5eed_0002, 80_000, moments),
         ("rows from no list", 0x5eed_0003, 80_000, shaken),
         ("from no list", 0x5eed_0004, 200_000, loose),
         ("damaged or mismatched", 0x5eed_0005, 100_000, damaged),
+        ("a yield at an edge", 0x5eed_0008, 100_000, edges),
         ("against history", 0x5eed_0006, 70_000, against_history),
         ("ten years", 0x5eed_0007, 450_000, ten_years),
     ];
@@ -209,7 +223,14 @@ fn main() {
         println!("a verdict never came up");
         exit(1);
     }
+    let [met, passed_on] = seen.not_milked;
+    println!("  not milked: one that met, {met} times; another, passed on, {passed_on} times");
+    if seen.not_milked.contains(&0) {
+        println!("not milked never came up");
+        exit(1);
+    }
     seen.counts.require("meetings in all", 0..=9);
+    seen.counts.require_yields();
     for kind in ["two moments of a list", "rows from no list", "from no list"] {
         seen.counts.require(kind, [0, 9]);
     }

@@ -1,9 +1,20 @@
-//! Document 01 in plain Rust: the other side of every comparison. Stalls, rows and columns count
-//! from 1 as they do there, so index 0 of each array is unused.
+//! Document 01 with request 2026-01 in plain Rust: the other side of every comparison. Stalls, rows
+//! and columns count from 1 as they do there, so index 0 of each array is unused.
 
 use std::ops::RangeInclusive;
 
+/// The most that a milking may bring.
 const YIELD_LIMIT: u16 = 999;
+
+/// Not milked. Request 2026-01, in place of "0 when fresh" and "None has yield 0": "it is the current
+/// yield of a fresh head, and the stall yield of a stall never heard".
+pub const NOT_MILKED: u16 = 0xffff;
+
+/// What a yield in an image may be, be it current or a stall's, heard or not. Request 2026-01:
+/// "Check 4 admits it in images".
+fn may_be_in_image(value: u16) -> bool {
+    value <= YIELD_LIMIT || value == NOT_MILKED
+}
 
 /// A meeting as a column names it: the other stall and the label.
 #[derive(Clone, Copy, PartialEq, Eq)]
@@ -39,8 +50,11 @@ pub fn label_limit(n: usize) -> usize {
 }
 
 impl Table {
+    /// Nothing heard and not milked. Request 2026-01, in place of "then zeros": "its names and marks
+    /// are still zeros".
     pub fn fresh(n: usize, stall: usize) -> Table {
-        Table { n, stall, current: 0, rows: [[NONE; 9]; 9], yields: [0; 9], order: [0; 9] }
+        let yields = [NOT_MILKED; 9];
+        Table { n, stall, current: NOT_MILKED, rows: [[NONE; 9]; 9], yields, order: [0; 9] }
     }
 
     /// Takes an image of the right length apart.
@@ -103,6 +117,10 @@ impl Table {
         (partner != 0).then_some((r.min(partner), r.max(partner), label))
     }
 
+    fn bad_yields(&self) -> bool {
+        !may_be_in_image(self.current) || self.stalls().any(|r| !may_be_in_image(self.yields[r]))
+    }
+
     fn bad_name_itself(&self, name: Name, column: usize) -> bool {
         let partner = name.partner as usize;
         partner == 0 && name.label != 0
@@ -111,12 +129,14 @@ impl Table {
             || name.label as usize > label_limit(self.n)
     }
 
+    /// Request 2026-01, in place of "a yield not 0 for a stall never heard": "check 5 wants it for
+    /// stalls never heard".
     fn bad_names(&self) -> bool {
         self.stalls().any(|s| {
             self.stalls().any(|r| self.bad_name_itself(self.rows[s][r], r))
                 || self.rows[s][s] != self.own_row()[s]
                 || !self.heard(s) && self.stalls().any(|r| self.rows[s][r] != NONE)
-                || !self.heard(s) && self.yields[s] != 0
+                || !self.heard(s) && self.yields[s] != NOT_MILKED
         })
     }
 
@@ -142,7 +162,7 @@ pub fn read(image: &[u8]) -> Result<Table, u32> {
     if !table.stalls().contains(&table.stall) {
         return Err(3);
     }
-    if table.current > YIELD_LIMIT || table.stalls().any(|r| table.yields[r] > YIELD_LIMIT) {
+    if table.bad_yields() {
         return Err(4);
     }
     if table.bad_names() {
@@ -172,6 +192,7 @@ pub fn fresh(image: &mut [u8], n: u8, stall: u8) -> u32 {
     0
 }
 
+/// Request 2026-01: "A milking with ffff is still number 4".
 pub fn milking(image: &mut [u8], new: u16) -> u32 {
     match read(image) {
         Err(number) => number,

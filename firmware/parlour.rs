@@ -2,7 +2,7 @@
 
 use crate::calls::{self, agree, hex, Counts, Outcome, Run};
 use crate::images::Random;
-use crate::model::{self, Meeting, Table};
+use crate::model::{self, Meeting, Table, NOT_MILKED};
 use crate::pairs::{next_pair, Way, WAYS};
 use std::process::exit;
 
@@ -23,6 +23,8 @@ pub struct Seen {
     pub counts: Counts,
     pub verdicts: [u64; 3],
     pub most_label: u32,
+    /// How many left one of the two that met, and how many passed on another, as not milked.
+    pub not_milked: [u64; 2],
 }
 
 impl Seen {
@@ -59,7 +61,18 @@ impl Seen {
         if outcome.answer < 256 {
             self.most_label = self.most_label.max(outcome.answer);
             outcome.runs[2].iter().for_each(|&verdict| self.verdicts[verdict as usize] += 1);
+            self.note_not_milked(outcome);
         }
+    }
+
+    fn note_not_milked(&mut self, outcome: &Outcome) {
+        let first = model::read(&outcome.runs[0]).ok().unwrap();
+        let second_stall = outcome.runs[1][1] as usize;
+        let met = |r| r == first.stall || r == second_stall;
+        let passed_on = |r: usize| !met(r) && outcome.runs[2][r - 1] != 0;
+        let is_not_milked = |&r: &usize| first.heard(r) && first.yields[r] == NOT_MILKED;
+        self.not_milked[0] += first.stalls().filter(is_not_milked).any(met) as u64;
+        self.not_milked[1] += first.stalls().filter(is_not_milked).any(passed_on) as u64;
     }
 }
 

@@ -1,14 +1,15 @@
 //! Inputs for a line program: taken lines, refused ones, and bytes that are no lines at all.
 
-use crate::images::Random;
+use crate::images::{Random, EDGES};
 use crate::pairs::{next_pair, Way, WAYS};
 
-/// Document 01's listing and its examples of lines: input and output.
-pub const EXAMPLES: [(&str, &str); 8] = [
+/// Document 01's listing and its examples of lines, and what request 2026-01 says of lines: input and
+/// output.
+pub const EXAMPLES: [(&str, &str); 9] = [
     (
         "0103\n02010012\n030102\n030203\n0403\n",
         "00\n00\n0000000000\n0000010100\n\
-         0003030000020001000000020003000200020003000200001200000000070606\n",
+         000303ffff0200010000000200030002000200030002000012ffffffff070606\n",
     ),
     ("0\n", "0a\n"),
     ("030102\n", "0b\n"),
@@ -20,6 +21,7 @@ pub const EXAMPLES: [(&str, &str); 8] = [
         "00\n0000000000\n0000010100\n0001010001\n0002000000\n0001000000\n",
     ),
     ("0102\n020103e7\n020103e8\n", "00\n00\n04\n"),
+    ("0102\n0201ffff\n0401\n", "00\n04\n000201ffff0000000000000000ffffffff0000\n"),
 ];
 
 /// Lines to a parlour of n heads.
@@ -60,8 +62,7 @@ impl Talk {
     fn odd_values(&self, random: &mut Random) -> Vec<u8> {
         let (one, other) = (self.any_stall(random), self.any_stall(random));
         let stall = random.stall(self.n);
-        let new = random.any_yield();
-        let new = random.pick(&[0, 255, 256, 999, 1000, 1001, 0x0fe7, 0xe703, 65535, new]);
+        let new = if random.percent(90) { random.pick(&EDGES) } else { random.any_yield() };
         let line = match random.below(9) {
             0 => format!("02{one:02x}{new:04x}"),
             1 => format!("02{stall:02x}{new:04x}"),

@@ -2,7 +2,8 @@
 
    An image is the table of one head, as bytes: N (2 to 8), own stall (1 to N), current yield, N
    rows of N names (partner byte and label byte), N yields, N order bytes. A yield is two bytes,
-   high byte first, 0 to 999 decilitres. The image of N heads has WILBRYN_IMAGE_LENGTH(N) bytes.
+   high byte first: 0 to 999 decilitres, or WILBRYN_NOT_MILKED. The image of N heads has
+   WILBRYN_IMAGE_LENGTH(N) bytes.
 
    Runs of bytes are lent for the time of a call, as a pointer and a length. Those lent to one call
    must not overlap. No pointer may be null; a run of length 0 may have any other.
@@ -12,10 +13,11 @@
      1  image empty, or N not 2 to 8        6  bad order marks
      2  length not the one for N            7  two images differ in N or have one stall
      3  stall not 1 to N                    8  verdicts not N bytes, or records not 3 * N
-     4  a yield over 999                    9  the two images do not belong together
+     4  a yield over 999 and not 0xffff     9  the two images do not belong together
      5  a bad name
 
-   The check of an image tries 1 to 6 in order and stops at the first that applies. */
+   The check of an image tries 1 to 6 in order and stops at the first that applies. A stall never
+   heard has the yield WILBRYN_NOT_MILKED: with 0 to 999 the image is refused with 5. */
 #ifndef WILBRYN_H
 #define WILBRYN_H
 
@@ -28,24 +30,29 @@ extern "C" {
 
 #define WILBRYN_IMAGE_LENGTH(n) (2u * (n) * (n) + 3u * (n) + 4u)
 
+/* The current yield of a head until its first milking, and the yield of a stall never heard. A cow
+   that gave nothing has 0. */
+#define WILBRYN_NOT_MILKED 0xffff
+
 /* wilbryn_heard and wilbryn_meeting answer this plus the number of a refusal. */
 #define WILBRYN_REFUSED 256
 
-/* Writes the fresh image of a stall in a parlour of n: n, stall, zeros. Answers 0, or 1 for n, 2
-   for len, 3 for stall, tried in this order. */
+/* Writes the fresh image of a stall in a parlour of n: n, stall, the current yield and all n yields
+   not milked, zeros elsewhere. Answers 0, or 1 for n, 2 for len, 3 for stall, tried in this
+   order. */
 uint32_t wilbryn_fresh(uint8_t *image, size_t len, uint8_t n, uint8_t stall);
 
 /* Checks an image. Answers 0, or 1 to 6. */
 uint32_t wilbryn_check(const uint8_t *image, size_t len);
 
-/* Replaces the current yield. Answers 0, or 1 to 6 for the image, then 4 for a new yield over
-   999. */
+/* Replaces the current yield. Answers 0, or 1 to 6 for the image, then 4 for a new yield over 999,
+   WILBRYN_NOT_MILKED included. */
 uint32_t wilbryn_milking(uint8_t *image, size_t len, uint16_t yield);
 
 /* Writes a record for each stall that the head has heard of, itself included: the stall byte and
-   its yield; then zeros to the end. A caller can conclude nothing from the order of the records.
-   Answers how many there are, or 256 plus 1 to 6 for the image, then 256 + 8 if records_len is not
-   3 * N. */
+   its yield, WILBRYN_NOT_MILKED if its latest meeting came before its first milking; then zeros to
+   the end. A caller can conclude nothing from the order of the records. Answers how many there are,
+   or 256 plus 1 to 6 for the image, then 256 + 8 if records_len is not 3 * N. */
 uint32_t wilbryn_heard(const uint8_t *image, size_t len, uint8_t *records, size_t records_len);
 
 /* Joins two heads of one parlour. Both images get the newest news of every stall; verdict byte

@@ -5,7 +5,7 @@ use mathlib.Core.List.{List, [], _∷_, _++_}
 use lib.Dec.{eqb}
 use lib.ListN.{replicate}
 use Rattle.image.specs.Stalls.{each}
-use Rattle.image.specs.Examples.{withLabel, nine-first, nine-second, listing}
+use Rattle.image.specs.Examples.{notMilked, withLabel, nine-first, nine-second, listing}
 use Rattle.line.specs.Examples.{frames}
 use Rattle.cases.specs.Case.{Given, labels, verdicts, firsts, together, milked, lines, number, lent, everyTwo}
 
@@ -22,7 +22,7 @@ abbrev pub example-2-4 : List (ℕ × ℕ)
 example-2-4 = (1, 2) ∷ (1, 3) ∷ (1, 4) ∷ (4, 5) ∷ (2, 5) ∷ (2, 4) ∷ []
 
 -- The first meeting of a parlour, of p and q: "The two that met get the new name and their current yields; their two rows are the new list of latests. Marks: every
--- heard stall has one to each of the two that met". Nobody else was heard, and nobody was milked.
+-- heard stall has one to each of the two that met". Nobody else was heard, and nobody was milked: all yields are ffff.
 module _ (n p q : ℕ) where
   abbrev pub latests : List ℕ
   latests = each n (λ c. cond (eqb c p) (q ∷ 0 ∷ []) (cond (eqb c q) (p ∷ 0 ∷ []) (0 ∷ 0 ∷ [])))
@@ -34,14 +34,18 @@ module _ (n p q : ℕ) where
   -- the image of one of them
   abbrev pub metImage : ℕ → List ℕ
   metImage own =
-      (n ∷ own ∷ 0 ∷ 0 ∷ [])
+      (n ∷ own ∷ notMilked 1)
       ++ ofTheTwo latests (replicate (n + n) 0)
-      ++ replicate (n + n) 0
+      ++ notMilked n
       ++ ofTheTwo ((2 ^ (p - 1) + 2 ^ (q - 1)) ∷ []) (0 ∷ [])
 
 -- label 0, both images, and verdicts all 0
 unfoldable pub firstMeetings : ℕ → List ℕ
 firstMeetings n = everyTwo n (λ p q. 0 ∷ (metImage n p q p ++ metImage n p q q ++ replicate n 0))
+
+-- the first of two heads that have not met, with this current yield
+abbrev pub milkedImage : List ℕ → List ℕ
+milkedImage current = (2 ∷ 1 ∷ current) ++ replicate 8 0 ++ notMilked 2 ++ replicate 2 0
 
 unfoldable pub table : List Case
 table =
@@ -67,9 +71,12 @@ table =
     gives ((0x00 ∷ []) ++ (0x00 ∷ []) ++ (0x00 ∷ 0x00 ∷ 0x00 ∷ 0x00 ∷ 0x00 ∷ []) ++ (0x00 ∷ 0x00 ∷ 0x01 ∷ 0x01 ∷ 0x00 ∷ []) ++ (0x00 ∷ listing)))
     -- "both images of row 9"
     ∷ (together nine-first nine-second gives ((256 + 9) ∷ (nine-first ++ nine-second ++ lent 2)))
-    -- "yield 999 taken, 1000 is 4."
-    ∷ (milked 999 gives (0 ∷ 2 ∷ 1 ∷ 0x03 ∷ 0xe7 ∷ replicate 14 0))
-    ∷ (milked 1000 gives (4 ∷ 2 ∷ 1 ∷ replicate 16 0))
+    -- "yield 999 taken, 1000 is 4."; request 2026-01: "A milking with ffff is still number 4."
+    ∷ (milked 999 gives (0 ∷ milkedImage (0x03 ∷ 0xe7 ∷ [])))
+    ∷ (milked 0 gives (0 ∷ milkedImage (0 ∷ 0 ∷ [])))
+    ∷ (milked 1000 gives (4 ∷ milkedImage (notMilked 1)))
+    ∷ (milked 0xfe00 gives (4 ∷ milkedImage (notMilked 1)))
+    ∷ (milked 0xffff gives (4 ∷ milkedImage (notMilked 1)))
     -- "N=3, label 12 passes check 5 on range, 13 does not."
     ∷ (number (withLabel 12) gives (0 ∷ []))
     ∷ (number (withLabel 13) gives (5 ∷ []))

@@ -7,7 +7,7 @@ use lib.ListN.{length, getD, set, length-set}
 use lib.Seq.{getD-set-same, getD-set-other}
 use Rattle.image.specs.Layout.{yieldLimit, currentAt}
 use Rattle.image.proofs.Accepted.{Accepted}
-use Rattle.image.proofs.Yields.{yield-in}
+use Rattle.image.proofs.YieldRange.{yield-in}
 use Rattle.image.proofs.SameBody.{same-accepted}
 use Rattle.head.specs.Calls.{withCurrent}
 

@@ -1,17 +1,19 @@
--- The law of `specs/Theory.antt` holds of every image.
+-- The laws of `specs/Theory.antt` hold of every image.
 use Prim.Native.Nat.{ℕ}
-use mathlib.Core.Path.{_≡_, refl}
+use mathlib.Core.Path.{_≡_, refl, sym}
 use mathlib.Core.Bool.{Bool, true, false, cond}
 use mathlib.Core.List.{List}
 use borrow.Author.Tests.{ltb-false}
 use lib.Dec.{ltb}
-use Rattle.image.specs.Layout.{yieldLimit}
+use Rattle.image.specs.Layout.{yieldLimit, noYield}
 use Rattle.image.specs.Check.{checked}
 use Rattle.image.specs.declared.Checked.{Checked}
 use Rattle.image.specs.declared.Checked.the-variants.{Good, Refused}
+use Rattle.image.proofs.YieldRange.{none-over}
 use Rattle.image.proofs.Accepted.{accepted, checked-accepted}
 use Rattle.head.specs.Calls.{refused, accepted as done, withCurrent, milked, milkingCall}
 use Rattle.head.specs.Theory.{Theory}
+use Rattle.head.proofs.Milking.{milking-over}
 use Rattle.head.proofs.Milked.{milked-accepted}
 
 stays : (s : List ℕ) (yield : ℕ) → checked (milkingCall s yield .image) ≡ checked s
@@ -27,4 +29,4 @@ stays s yield = go (checked s) refl
         over false f = checked-accepted (milked-accepted s yield (accepted s h e) (ltb-false yieldLimit yield f))
 
 pub theory : Theory
-theory = record { milked-accepted = stays }
+theory = record { milked-accepted = stays; not-milked-refused = λ s h e. sym (milking-over s noYield e none-over) }

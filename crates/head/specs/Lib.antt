@@ -2,5 +2,6 @@
 pub mod Calls
 pub mod Heard
 pub mod Theory
+pub mod Examples
 -- What the functions behind the heard list say to each other. No caller sees this.
 pub mod HeardOrder

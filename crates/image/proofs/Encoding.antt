@@ -6,21 +6,21 @@ use mathlib.Core.List.{List, [], _∷_, _++_}
 use native.Mathlib.Omega.{arith}
 use borrow.Author.Tests.{eqb-true, eqb-false, ne-eqb, not-false}
 use lib.Dec.{leb, ltb, eqb}
-use lib.ListN.{length, getD, length-append, replicate, length-replicate}
+use lib.ListN.{length, getD, length-append}
 use lib.Pow.{pow-mono}
 use Rattle.image.specs.Stalls.{some, each, bits, has}
 use Rattle.image.specs.Layout.{largest, labelLimit, word, namePlace, yieldPlace, orderWidth, orderPlace, currentAt, partnerAt, labelAt, yieldAt, orderAt, markAt, nameFrom, nameAt, heardAt, imageLength, ordersPlace, yieldsPlace}
 use Rattle.image.specs.Frame.{Framed}
 use Rattle.image.specs.Check.{badName, badDiagonal, badUnheard, badRow, badNames, badOrder, badMarks}
-use Rattle.image.specs.Encode.{Table, nameBytes, wordBytes, orderBytes, encode, tableOf, nothing}
+use Rattle.image.specs.Encode.{Table, nameBytes, wordBytes, orderBytes, encode, tableOf}
 use Rattle.image.specs.declared.Name.{Name}
 use Rattle.image.specs.declared.Name.the-variants.{Never, With}
-use Rattle.image.proofs.Bits.{has-ext, has-bits, bits-lt, bits-agree, bits-none}
+use Rattle.image.proofs.Bits.{has-ext, has-bits, bits-lt, bits-agree}
 use Rattle.image.proofs.Tables.{none-at}
 use Rattle.image.proofs.Passing.{or-fails}
 use Rattle.image.proofs.Places.{row-within}
-use Rattle.image.proofs.Has.{Has, has-place, has-self, has-whole, has-first, has-two, has-left, has-right, has-zeros, has-both, length-each, has-each, each-has}
-use Rattle.image.proofs.OrderEntry.{length-order, order-back, order-bound, order-has, order-zeros, order-within}
+use Rattle.image.proofs.Has.{Has, has-place, has-self, has-whole, has-first, has-two, has-left, has-right, has-both, length-each, has-each, each-has}
+use Rattle.image.proofs.OrderEntry.{length-order, order-back, order-bound, order-has, order-within}
 
 -- the bytes s show the table t, place by place
 pub record Shows (s : List ℕ) (n own : ℕ) (t : Table) : Type 0 where
@@ -273,19 +273,3 @@ encode-accepted s n own f count stall bytes names marks =
     order r i j =
         rw (bits-back n (orderAt s n r) (f .n-to) (order-bound s n (orderPlace n r) bytes) (λ t. no-mark s n own marks r t i j))
         (order-has s n (orderPlace n r) (omega (arith, order-within i j)) bytes)
-
--- The image of a table that has heard nobody
-
-pub fresh-encode : (n own : ℕ) → n ∷ own ∷ replicate (imageLength n - 2) 0 ≡ encode n own nothing
-unfolding nothing
-fresh-encode n own =
-    let m = imageLength n - 2 in
-    let s : List ℕ = n ∷ own ∷ replicate m 0 in
-    let zeros = has-zeros m (has-right (n ∷ own ∷ []) (replicate m 0) (has-self s)) in
-    let long : length s ≡ imageLength n = omega (arith, length-replicate {A = ℕ} m 0) in
-    sym (shows-encode n own nothing long (record {
-      start = has-both (has-left (n ∷ own ∷ []) (replicate m 0) (has-self s)) (zeros 2 2 (omega arith) (omega arith));
-      names = λ r c i j k l. zeros (namePlace n r c) 2 (omega arith) (omega (arith, row-within i j));
-      yields = λ r i j. zeros (yieldPlace n r) 2 (omega arith) (omega arith);
-      order = λ r i j. rw (bits-none n, ← order-zeros n) (zeros (orderPlace n r) (orderWidth n) (omega arith) (omega (arith, order-within i j)));
-    }))

@@ -1,17 +1,22 @@
--- A fresh image is accepted, and stands at the front of a fresh table.
-use Prim.Native.Nat.{ℕ, _+_, _-_, _≤_}
-use mathlib.Core.Path.{_≡_, sym, ap, _∙_}
+-- A fresh image: that it is accepted, its bytes, and that it stands at the front of a fresh table.
+use Prim.Native.Nat.{ℕ, _+_, _-_, _*_, _≤_}
+use mathlib.Core.Path.{_≡_, sym, ap, ap₂, _∙_}
 use mathlib.Core.Bool.{false}
-use mathlib.Core.List.{_∷_, _++_}
+use mathlib.Core.List.{List, _∷_, _++_}
 use native.Mathlib.Omega.{arith}
 use borrow.Author.Tests.{le-leb}
-use lib.ListN.{length, take, replicate, length-append, length-replicate, replicate-append-replicate}
+use lib.ListN.{length, take, drop, replicate, length-append, length-replicate}
 use lib.Seq.{take-at}
-use Rattle.image.specs.Layout.{largest, isCount, longest, lengthOf}
+use Rattle.image.specs.Stalls.{each}
+use Rattle.image.specs.Layout.{largest, isCount, noYield, longest, lengthOf, orderWidth, yieldsPlace, yieldsFrom}
 use Rattle.image.specs.Fresh.{freshImage, freshTable}
-use Rattle.image.specs.Encode.{nothing}
-use Rattle.image.proofs.Encoding.{length-encode, fresh-encode}
-use Rattle.image.proofs.OrderEntry.{length-is}
+use Rattle.image.specs.Encode.{nothing, wordBytes, orderBytes, encode}
+use Rattle.image.proofs.Bits.{bits-none}
+use Rattle.image.proofs.YieldRange.{no-yield}
+use Rattle.image.proofs.Zeros.{zeros-parted, zeros-between, each-zeros}
+use Rattle.image.proofs.Places.{yields-from}
+use Rattle.image.proofs.Encoding.{length-encode}
+use Rattle.image.proofs.OrderEntry.{length-is, order-zeros}
 use Rattle.image.proofs.Stages.{length-range}
 use Rattle.image.proofs.Accepted.{Accepted}
 use Rattle.image.proofs.Made.{nothing-made}
@@ -20,6 +25,16 @@ use Rattle.image.proofs.MadeAccepted.{made-accepted}
 pub fresh-accepted : (n own : ℕ) → 2 ≤ n → n ≤ largest → 1 ≤ own → own ≤ n → Accepted (freshImage n own) n own
 unfolding freshImage
 fresh-accepted n own n-from n-to own-from own-to = made-accepted n own nothing n-from n-to own-from own-to (nothing-made n own)
+
+-- every byte: "names and marks are still zeros"
+pub fresh-bytes : (n own : ℕ) → freshImage n own ≡ (n ∷ own ∷ wordBytes noYield) ++ replicate (n * (n + n)) 0 ++ each n no-yield ++ replicate (n * orderWidth n) 0
+unfolding freshImage encode nothing
+fresh-bytes n own =
+    let front : List ℕ = n ∷ own ∷ wordBytes noYield in
+    let e : n * 2 ≡ n + n = omega arith in
+    let rows = ap (λ l. each n (λ r. l)) (each-zeros n 2 ∙ ap (λ j. replicate j 0) e) ∙ each-zeros n (n + n) in
+    let marks = ap (λ l. each n (λ r. l)) (ap (orderBytes n) (bits-none n) ∙ sym (order-zeros n)) ∙ each-zeros n (orderWidth n) in
+    ap₂ (λ a b. front ++ a ++ each n no-yield ++ b) rows marks
 
 module _ (n own : ℕ) (n-from : 2 ≤ n) (n-to : n ≤ largest) where
   pub length-fresh : length (freshImage n own) ≡ lengthOf n
@@ -39,22 +54,27 @@ module _ (n own : ℕ) (n-from : 2 ≤ n) (n-to : n ≤ largest) where
       ∙ length-append (freshImage n own) (replicate (longest - lengthOf n) 0)
       ∙ omega (arith, length-fresh, length-replicate {A = ℕ} (longest - lengthOf n) 0, length-range n n-from n-to .1)
 
-  -- "N, its stall, then zeros"
-  pub fresh-zeros : freshImage n own ≡ n ∷ own ∷ replicate (lengthOf n - 2) 0
-  unfolding freshImage
-  fresh-zeros =
-      sym (ap (λ j. n ∷ own ∷ replicate (j - 2) 0) (length-is n n-from n-to) ∙ fresh-encode n own)
+  -- as it is written: N, the stall and the current yield, then zeros, then the yields of m stalls in their place
+  module _ (m at : ℕ) (begun : List ℕ) (m-is : m ≡ n) (at-is : at ≡ yieldsFrom (lengthOf m) m)
+      (begun-is : begun ≡ (n ∷ own ∷ wordBytes noYield) ++ replicate (longest - 4) 0) where
+    place-is : at ≡ yieldsPlace n
+    place-is = yields-from {long = lengthOf m} (ap lengthOf m-is ∙ length-is n n-from n-to) m-is at-is
 
-  -- and so the table has zeros to its end
-  pub fresh-bytes : n ∷ own ∷ replicate (longest - 2) 0 ≡ freshTable n own
-  fresh-bytes =
-      let (a, b) = length-range n n-from n-to in
-      let behind = longest - lengthOf n in
-      let e : longest - 2 ≡ lengthOf n - 2 + behind = omega arith in
-      ap (λ j. n ∷ own ∷ replicate j 0) e
-      ∙ ap (λ l. n ∷ own ∷ l) (sym (replicate-append-replicate (lengthOf n - 2) behind 0))
-      ∙ ap (λ l. l ++ replicate behind 0) (sym fresh-zeros)
-      ∙ sym fresh-table
+    pub fresh-room : (length begun ≡ longest) × (at + m * 2 ≤ longest)
+    fresh-room = (ap length begun-is, omega (arith, place-is, length-is n n-from n-to, length-range n n-from n-to .1))
+
+    pub fresh-written : take at begun ++ each m no-yield ++ drop (at + m * 2) begun ≡ freshTable n own
+    fresh-written =
+        let front : List ℕ = n ∷ own ∷ wordBytes noYield in
+        let rows = n * (n + n) in
+        let long = length-is n n-from n-to in
+        let short = length-range n n-from n-to .1 in
+        ap₂ (λ j k. take j begun ++ each k no-yield ++ drop (j + k * 2) begun) place-is m-is
+        ∙ ap (λ s. take (yieldsPlace n) s ++ each n no-yield ++ drop (yieldsPlace n + n * 2) s) begun-is
+        ∙ zeros-between front (each n no-yield) (longest - 4) rows (n * 2) (omega arith)
+        ∙ zeros-parted (front ++ replicate rows 0 ++ each n no-yield) (longest - 4 - (rows + n * 2)) (n * orderWidth n) (longest - lengthOf n) (omega arith)
+        ∙ ap (λ s. s ++ replicate (longest - lengthOf n) 0) (sym (fresh-bytes n own))
+        ∙ sym fresh-table
 
 pub fresh-none : (n own : ℕ) → isCount n ≡ false → replicate longest 0 ≡ freshTable n own
 unfolding freshTable

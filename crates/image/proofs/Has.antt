@@ -4,7 +4,7 @@ use mathlib.Core.Path.{_≡_, refl, sym, ap, subst, _∙_}
 use mathlib.Core.List.{List, [], _∷_, _++_, flatMap, append-assoc}
 use native.Mathlib.Omega.{arith}
 use native.Mathlib.Decide.{decLe, decLt}
-use lib.ListN.{length, getD, take, drop, length-drop, length-append, List·getD-append, replicate, length-replicate, getD-replicate}
+use lib.ListN.{length, getD, take, drop, length-drop, length-append, List·getD-append}
 use lib.Seq.{length-take-le, getD-take, getD-drop, getD-append-add, ext-getD}
 use Rattle.image.specs.Stalls.{each}
 
@@ -70,19 +70,6 @@ has-both {s} {a} {b} {i} h g = record { fits = omega (arith, length-append a b, 
 
 pub has-two : {s : List ℕ} {i : ℕ} (a b : ℕ) → i + 1 < length s → getD s i 0 ≡ a → getD s (i + 1) 0 ≡ b → Has s i (a ∷ b ∷ [])
 has-two a b l d e = has-both (has-one a (omega arith) d) (has-one b l e)
-
--- fewer zeros
-pub has-zeros : {s : List ℕ} {i : ℕ} (m : ℕ) → Has s i (replicate m 0) → (j k : ℕ) → i ≤ j → j + k ≤ i + m → Has s j (replicate k 0)
-has-zeros {s} {i} m h j k a b =
-    let d = length-replicate {A = ℕ} k 0 in
-    let e = length-replicate {A = ℕ} m 0 in
-    record {
-      fits = omega (arith, h .fits);
-      byte = λ q l.
-          let o : j + q ≡ i + (j - i + q) = omega arith in
-          ap (λ x. getD s x 0) o ∙ h .byte (j - i + q) (omega arith) ∙ getD-replicate m (j - i + q) 0 0 (omega arith)
-          ∙ sym (getD-replicate k q 0 0 (omega arith));
-    }
 
 -- bytes that stand in a list are that part of it
 pub has-part : {s l : List ℕ} {i : ℕ} → Has s i l → take (length l) (drop i s) ≡ l

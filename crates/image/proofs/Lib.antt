@@ -5,7 +5,7 @@ pub mod Tables
 pub mod Gather
 pub mod Places
 pub mod Stages
-pub mod Yields
+pub mod YieldRange
 pub mod Overwrite
 pub mod Zeros
 pub mod Blocks

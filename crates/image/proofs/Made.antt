@@ -4,7 +4,7 @@ use mathlib.Core.Path.{_≡_, refl}
 use mathlib.Core.Bool.{false≢true}
 use Rattle.image.specs.Encode.{Table, nothing}
 use Rattle.image.specs.Made.{Made}
-use Rattle.image.proofs.Yields.{yield-none}
+use Rattle.image.proofs.YieldRange.{yield-none}
 
 pub nothing-made : (n own : ℕ) → Made n own nothing
 unfolding nothing

@@ -3,12 +3,12 @@ use Rattle.image.specs.Theory.{Theory}
 use Rattle.image.proofs.Accepted.{accepted, checked-accepted, accepted-encode}
 use Rattle.image.proofs.AcceptedMade.{accepted-made}
 use Rattle.image.proofs.MadeAccepted.{made-accepted}
-use Rattle.image.proofs.FreshTable.{fresh-zeros, fresh-accepted}
+use Rattle.image.proofs.FreshTable.{fresh-bytes, fresh-accepted}
 
 pub theory : Theory
 theory =
     record {
-      fresh-zeros = fresh-zeros;
+      fresh-bytes = fresh-bytes;
       fresh-accepted = λ n own i j k l. checked-accepted (fresh-accepted n own i j k l);
       accepted-made = λ s n own e. accepted-made (accepted s _ e);
       made-accepted = λ n own t i j k l m. checked-accepted (made-accepted n own t i j k l m);

@@ -21,7 +21,7 @@ badLength s = not (eqb (length s) (lengthOf (getD s 0 0)))
 abbrev pub badStall : ℕ → ℕ → Bool
 badStall n own = not (leb 1 own && leb own n)
 
--- 4: "current, stall .. yield over 999"
+-- 4: "current, stall .. yield over 999", but request 2026-01: "Check 4 admits it in images", ffff for not milked
 unfoldable pub badYields : List ℕ → ℕ → Bool
 badYields s n = not (isYield (currentAt s)) || some n (λ r. not (isYield (yieldAt s n r)))
 
@@ -35,7 +35,7 @@ unfoldable pub badDiagonal : List ℕ → ℕ → ℕ → ℕ → Bool
 badDiagonal s n own r =
     not (eqb (partnerAt s n r r) (partnerAt s n own r) && eqb (labelAt s n r r) (labelAt s n own r))
 
--- "a name in the row of a stall never heard; a yield not 0 for a stall never heard"
+-- "a name in the row of a stall never heard"; and of its yield request 2026-01: "check 5 wants it for stalls never heard", ffff for not milked
 unfoldable pub badUnheard : List ℕ → ℕ → ℕ → ℕ → Bool
 badUnheard s n own r =
     not (heardAt s n own r)

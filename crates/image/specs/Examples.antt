@@ -1,48 +1,74 @@
--- Document 01's examples for the numbers 1 to 6, and the listing's image, by evaluation.
-use Prim.Native.Nat.{ℕ}
+-- Document 01's examples for the numbers 1 to 6, as request 2026-01 changes them, the yields that it names, and the listing's image, by evaluation.
+use Prim.Native.Nat.{ℕ, _*_}
 use mathlib.Core.Path.{_≡_, refl}
 use mathlib.Core.List.{List, [], _∷_, _++_, map}
 use lib.ListN.{replicate}
 use Rattle.image.specs.Stalls.{some, each, bits, has}
-use Rattle.image.specs.Layout.{isYield, orderWidth, orderFrom, markAt, nameFrom, nameAt, heardAt}
+use Rattle.image.specs.Layout.{noYield, isYield, orderWidth, orderFrom, markAt, nameFrom, nameAt, heardAt}
 use Rattle.image.specs.Check.{badCount, badLength, badYields, badDiagonal, badUnheard, badRow, badNames, badOrder, badMarks, checkBody, checked, numberOf}
-use Rattle.image.specs.Encode.{nothing, orderBytes, encode, tableOf}
+use Rattle.image.specs.Encode.{nothing, wordBytes, orderBytes, encode, tableOf}
 use Rattle.image.specs.Fresh.{freshImage, freshTable}
 
 -- whoever unfolds this unfolds all that an image is made, read and checked with
 unfoldable pub evaluated : Unit {0}
-unfolding some each bits has isYield orderWidth orderFrom orderBytes markAt nameFrom nameAt heardAt nothing encode tableOf freshImage freshTable badCount badLength badYields badDiagonal badUnheard badRow badNames badOrder badMarks checkBody checked
+unfolding some each bits has noYield isYield orderWidth orderFrom orderBytes markAt nameFrom nameAt heardAt nothing encode tableOf freshImage freshTable badCount badLength badYields badDiagonal badUnheard badRow badNames badOrder badMarks checkBody checked
 evaluated = tt
 
--- "A fresh image is N, its stall, then zeros."
-fresh-examples : (freshImage 2 1 ≡ 2 ∷ 1 ∷ replicate 16 0) × (freshImage 3 2 ≡ 3 ∷ 2 ∷ replicate 29 0) × (freshTable 8 5 ≡ 8 ∷ 5 ∷ replicate 154 0)
+-- not milked, and the bytes of so many such yields
+not-milked-is : noYield ≡ 0xffff
+unfolding evaluated
+not-milked-is = refl
+
+abbrev pub notMilked : ℕ → List ℕ
+notMilked count = replicate (count * 2) 0xff
+
+-- Request 2026-01: ffff "is the current yield of a fresh head, and the stall yield of a stall never heard"; "its names and marks are still zeros"
+fresh-examples : (freshImage 2 1 ≡ (2 ∷ 1 ∷ notMilked 1) ++ replicate 8 0 ++ notMilked 2 ++ replicate 2 0)
+    × (freshImage 3 2 ≡ (3 ∷ 2 ∷ notMilked 1) ++ replicate 18 0 ++ notMilked 3 ++ replicate 3 0)
+    × (freshTable 8 5 ≡ (8 ∷ 5 ∷ notMilked 1) ++ replicate 128 0 ++ notMilked 8 ++ replicate 8 0)
 unfolding evaluated
 fresh-examples = (refl, refl, refl)
 
 number : List ℕ → ℕ
 number s = numberOf (checked s)
 
--- the examples of the numbers 1 to 6, in their order
+-- the examples of the numbers 1 to 6, in their order. "The examples of 6 and 7 have ffff in all their yields." Those of 3 to 5 have 0 for stalls
+-- never heard, a second fault that by itself is 5; the last has the bad name of the example of 5 and no other fault.
 refused-examples : map number
     ((1 ∷ [])
     ∷ (2 ∷ 1 ∷ [])
     ∷ (2 ∷ 3 ∷ replicate 16 0)
     ∷ (2 ∷ 1 ∷ 3 ∷ 0xe8 ∷ replicate 14 0)
     ∷ (2 ∷ 1 ∷ 0 ∷ 0 ∷ 1 ∷ 0 ∷ replicate 12 0)
-    ∷ (2 ∷ 1 ∷ replicate 15 0 ++ (1 ∷ []))
+    ∷ ((2 ∷ 1 ∷ notMilked 1) ++ replicate 8 0 ++ notMilked 2 ++ (0 ∷ 1 ∷ []))
+    ∷ ((2 ∷ 1 ∷ notMilked 1) ++ (1 ∷ 0 ∷ replicate 6 0) ++ notMilked 2 ++ (1 ∷ 0 ∷ []))
     ∷ [])
-    ≡ 1 ∷ 2 ∷ 3 ∷ 4 ∷ 5 ∷ 6 ∷ []
+    ≡ 1 ∷ 2 ∷ 3 ∷ 4 ∷ 5 ∷ 6 ∷ 5 ∷ []
 unfolding evaluated number
 refused-examples = refl
 
--- an image of 3 stalls, of which 1 and 2 have met with this label
-abbrev pub withLabel : ℕ → List ℕ
-withLabel k =
-    (3 ∷ 1 ∷ 0 ∷ 0 ∷ [])
+-- head 1 of 3, which has met head 2 with a label: its current yield, that of stall 2, and that of stall 3, which it has not heard
+abbrev pub metOnce : ℕ → ℕ → ℕ → ℕ → List ℕ
+metOnce k current heard unheard =
+    (3 ∷ 1 ∷ wordBytes current)
     ++ (2 ∷ k ∷ 1 ∷ k ∷ 0 ∷ 0 ∷ [])
     ++ (2 ∷ k ∷ 1 ∷ k ∷ 0 ∷ 0 ∷ [])
-    ++ replicate 12 0
+    ++ replicate 6 0
+    ++ wordBytes 0
+    ++ wordBytes heard
+    ++ wordBytes unheard
     ++ (3 ∷ 3 ∷ 0 ∷ [])
+
+abbrev pub withLabel : ℕ → List ℕ
+withLabel k = metOnce k 0 0 0xffff
+
+-- "Check 4 admits it in images", as a current yield and for a heard stall; "check 5 wants it for stalls never heard", after 4
+yield-examples :
+    (map (λ y. number (metOnce 0 y 0 0xffff)) (0 ∷ 999 ∷ 1000 ∷ 0xfe00 ∷ 0xfffe ∷ 0xffff ∷ []) ≡ 0 ∷ 0 ∷ 4 ∷ 4 ∷ 4 ∷ 0 ∷ [])
+    × (map (λ y. number (metOnce 0 0 y 0xffff)) (0 ∷ 999 ∷ 1000 ∷ 0xfe00 ∷ 0xfffe ∷ 0xffff ∷ []) ≡ 0 ∷ 0 ∷ 4 ∷ 4 ∷ 4 ∷ 0 ∷ [])
+    × (map (λ y. number (metOnce 0 0 0 y)) (0 ∷ 999 ∷ 1000 ∷ 0xfe00 ∷ 0xfffe ∷ 0xffff ∷ []) ≡ 5 ∷ 5 ∷ 4 ∷ 4 ∷ 4 ∷ 0 ∷ [])
+unfolding evaluated number
+yield-examples = (refl, refl, refl)
 
 -- the images of number 9's example
 abbrev pub nine-first : List ℕ
@@ -55,7 +81,7 @@ nine-second = 2 ∷ 2 ∷ 0 ∷ 0 ∷ 2 ∷ 1 ∷ 1 ∷ 1 ∷ 2 ∷ 1 ∷ 1 ∷ 
 accepted-examples : map number
     (withLabel 12
     ∷ withLabel 13
-    ∷ (2 ∷ 1 ∷ replicate 16 0)
+    ∷ freshImage 2 1
     ∷ nine-first
     ∷ nine-second
     ∷ [])
@@ -63,14 +89,14 @@ accepted-examples : map number
 unfolding evaluated number
 accepted-examples = refl
 
--- the listing's image: head 3 after the meetings 1-2 and 2-3, stall 1 milked with 18 before
+-- the listing's image: head 3 after the meetings 1-2 and 2-3, stall 1 milked with 18 before, the others not
 abbrev pub listing : List ℕ
 listing =
-    3 ∷ 3 ∷ 0 ∷ 0
+    3 ∷ 3 ∷ 0xff ∷ 0xff
     ∷ 2 ∷ 0 ∷ 1 ∷ 0 ∷ 0 ∷ 0
     ∷ 2 ∷ 0 ∷ 3 ∷ 0 ∷ 2 ∷ 0
     ∷ 2 ∷ 0 ∷ 3 ∷ 0 ∷ 2 ∷ 0
-    ∷ 0 ∷ 0x12 ∷ 0 ∷ 0 ∷ 0 ∷ 0
+    ∷ 0 ∷ 0x12 ∷ 0xff ∷ 0xff ∷ 0xff ∷ 0xff
     ∷ 7 ∷ 6 ∷ 6 ∷ []
 
 -- it passes, and is the image of what it says

@@ -1,4 +1,4 @@
--- Document 01: "A fresh image is N, its stall, then zeros.": the image of the table that has heard nobody (Theory.antt: fresh-zeros).
+-- A fresh image: that of the table of a head that was not milked and has heard nobody (Theory.antt: fresh-bytes has its bytes).
 use Prim.Native.Nat.{ℕ, _-_}
 use mathlib.Core.Bool.{cond}
 use mathlib.Core.List.{List, _++_}

@@ -2,7 +2,7 @@
 -- Document 01: "Byte image, unsigned bytes: N; own stall; current yield in two bytes, high first; N rows of N names, each a partner byte (0 for none) and a
 -- label byte (0 for none); N yields of two bytes; N order bytes, byte r having the bit of value 2 to the power s−1 for mark (r, s)."
 use Prim.Native.Nat.{ℕ, _+_, _-_, _*_}
-use mathlib.Core.Bool.{Bool, _&&_, not, cond}
+use mathlib.Core.Bool.{Bool, _&&_, _||_, not, cond}
 use mathlib.Core.List.{List}
 use lib.Dec.{leb, eqb}
 use lib.ListN.{getD}
@@ -22,17 +22,17 @@ isCount n = leb 2 n && leb n largest
 abbrev pub yieldLimit : ℕ
 yieldLimit = 999
 
--- what a yield in an image may be
+-- Request 2026-01: "Hexadecimal ffff now means not milked: it is the current yield of a fresh head, and the stall yield of a stall never heard."
+unfoldable pub noYield : ℕ
+noYield = 0xffff
+
+-- what a yield in an image may be: 0 to 999, or not milked: "Check 4 admits it in images"
 unfoldable pub isYield : ℕ → Bool
-isYield x = leb x yieldLimit
+isYield x = leb x yieldLimit || eqb x noYield
 
 -- "Labels run from 0 to 4 × N."
 abbrev pub labelLimit : ℕ → ℕ
 labelLimit n = 4 * n
-
--- "0 when fresh", and "None has yield 0": the yield of a head that was not milked, and of a stall never heard
-abbrev pub noYield : ℕ
-noYield = 0
 
 -- "Length 2 × N × N + 3 × N + 4", for 2 to 8 heads; 0 for any other number
 abbrev pub lengthOf : ℕ → ℕ

@@ -14,9 +14,9 @@ NameIn n c (With m) = (1 ≤ m .partner) × (m .partner ≤ n) × (m .partner �
 
 -- the table t of the head at stall own, of n stalls; a stall that the own row has no name for was "never heard"
 pub record Made (n own : ℕ) (t : Table) : Type 0 where
-  -- the current yield: "decilitres, 0 to 999"
+  -- the current yield: "decilitres, 0 to 999", or not milked
   pub current-in : isYield (t .current) ≡ true
-  -- and no "stall .. yield over 999"
+  -- and no other "stall .. yield over 999"
   pub yields-in : (r : ℕ) → 1 ≤ r → r ≤ n → isYield (t .yields r) ≡ true
   -- no "partner above N or equal to the column; label above 4 × N"
   pub names-in : (r c : ℕ) → 1 ≤ r → r ≤ n → 1 ≤ c → c ≤ n → NameIn n c (t .names r c)
@@ -24,7 +24,7 @@ pub record Made (n own : ℕ) (t : Table) : Type 0 where
   pub diagonal : (r : ℕ) → 1 ≤ r → r ≤ n → t .names r r ≡ t .names own r
   -- "If s was never heard, the row is all none."
   pub unheard-row : (r c : ℕ) → 1 ≤ r → r ≤ n → 1 ≤ c → c ≤ n → t .names own r ≡ Never → t .names r c ≡ Never
-  -- "None has yield 0."
+  -- Request 2026-01: "it is .. the stall yield of a stall never heard"
   pub unheard-yield : (r : ℕ) → 1 ≤ r → r ≤ n → t .names own r ≡ Never → t .yields r ≡ noYield
   -- no "mark that involves a stall never heard"
   pub marks-heard : (r s : ℕ) → 1 ≤ r → r ≤ n → 1 ≤ s → s ≤ n → t .order r s ≡ true → (t .names own r ≡ Never → ⊥) × (t .names own s ≡ Never → ⊥)

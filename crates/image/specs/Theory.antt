@@ -1,12 +1,13 @@
 -- What callers may use of the check, as one record with a field for each law. `proofs/Theory.antt` proves it.
-use Prim.Native.Nat.{ℕ, _-_, _≤_, _<_}
+use Prim.Native.Nat.{ℕ, _+_, _*_, _≤_, _<_}
 use mathlib.Core.Path.{_≡_}
-use mathlib.Core.List.{List, _∷_}
+use mathlib.Core.List.{List, _∷_, _++_}
 use lib.ListN.{getD, replicate}
-use Rattle.image.specs.Layout.{largest, lengthOf}
+use Rattle.image.specs.Stalls.{each}
+use Rattle.image.specs.Layout.{largest, noYield, orderWidth}
 use Rattle.image.specs.Fresh.{freshImage}
 use Rattle.image.specs.Check.{checked}
-use Rattle.image.specs.Encode.{Table, encode, tableOf}
+use Rattle.image.specs.Encode.{Table, wordBytes, encode, tableOf}
 use Rattle.image.specs.Made.{Made}
 use Rattle.image.specs.declared.Checked.the-variants.{Good}
 
@@ -15,8 +16,9 @@ abbrev pub Passes : List ℕ → ℕ → ℕ → Type 0
 Passes s n own = checked s ≡ Good (record { n = n; stall = own })
 
 pub record Theory : Type 0 where
-  -- "A fresh image is N, its stall, then zeros."
-  pub fresh-zeros : (n own : ℕ) → 2 ≤ n → n ≤ largest → freshImage n own ≡ n ∷ own ∷ replicate (lengthOf n - 2) 0
+  -- "A fresh image is N, its stall", and by request 2026-01 not milked as its current yield and as that of each stall; "names and marks are still zeros".
+  pub fresh-bytes : (n own : ℕ)
+      → freshImage n own ≡ (n ∷ own ∷ wordBytes noYield) ++ replicate (n * (n + n)) 0 ++ each n (λ r. wordBytes noYield) ++ replicate (n * orderWidth n) 0
   -- It passes.
   pub fresh-accepted : (n own : ℕ) → 2 ≤ n → n ≤ largest → 1 ≤ own → own ≤ n → Passes (freshImage n own) n own
   -- The check of an image is `Made` of its table, and an image that passes is the image of what it says.

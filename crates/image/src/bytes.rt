@@ -1,13 +1,10 @@
-// Bytes of an image read as numbers, where rows and yields start, and the checks 1, 3 and 4.
+// Bytes of an image read as numbers, where rows and yields start, and the checks 1 and 3.
 ghost use mathlib.Core.Path.{_≡_};
-ghost use Prim.Native.Nat.{_+_, _-_, _*_, _<_, _≤_};
+ghost use Prim.Native.Nat.{_+_, _-_, _<_};
 ghost use mathlib.Core.Bool.{not};
 ghost use lib.ListN.{length};
-ghost use Rattle.image.specs.Stalls.{some};
-ghost use Rattle.image.specs.Layout.{isCount, isYield, rowPlace, word, yieldsFrom};
-ghost use Rattle.image.specs.Frame.{Framed};
-ghost use Rattle.image.specs.Check.{badStall, badYields};
-use crate::Head;
+ghost use Rattle.image.specs.Layout.{isCount, rowPlace, word, yieldsFrom};
+ghost use Rattle.image.specs.Check.{badStall};
 use crate::LARGEST;
 use crate::orders::orders_place;
 
@@ -23,29 +20,6 @@ pub(crate) fn word_at(image: &[u8], at: usize) -> usize
     ensures { λ r. ⌜ r ≡ word (now (image .entry)) at ⌝ }
 {
     wide(image[at]) * 256 + wide(image[at + 1])
-}
-
-// A number that a yield in an image may be.
-fn is_yield(x: usize) -> bool
-    ensures { λ r. ⌜ r ≡ isYield x ⌝ }
-{
-    x <= (Head::YIELD_LIMIT as usize)
-}
-
-// Some of n numbers in a row is no yield.
-fn some_no_yield(image: &[u8], n: usize, at: usize) -> bool
-    requires { ⌜ at + n * 2 ≤ length (now image) ⌝ }
-    ensures { λ r. ⌜ r ≡ some n (λ s. not (isYield (word (now (image .entry)) (at + (s - 1) * 2)))) ⌝ }
-{
-    let mut bad = false;
-    let mut place = at;
-    let mut s = 1usize;
-    while s <= n {
-        bad = !is_yield(word_at(image, place)) | bad;
-        place += 2;
-        s += 1;
-    }
-    bad
 }
 
 // Where the row of stall r starts in an image of n stalls.
@@ -74,15 +48,6 @@ pub fn yields_place(length: usize, n: usize) -> usize
     ensures { λ r. ⌜ r ≡ yieldsFrom length n ⌝ }
 {
     less(less(orders_place(length, n), n), n)
-}
-
-// Check 4.
-pub(crate) fn bad_yields(image: &[u8], n: u8, own: u8) -> bool
-    requires { ⌜ Framed (now image) n own ⌝ }
-    ensures { λ b. ⌜ b ≡ badYields (now (image .entry)) n ⌝ }
-{
-    let m = wide(n);
-    !is_yield(word_at(image, 2)) | some_no_yield(image, m, yields_place(image.len(), m))
 }
 
 // Check 3: a parlour of n heads has no such stall.

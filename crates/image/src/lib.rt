@@ -10,6 +10,7 @@ pub mod marks;
 mod names;
 pub mod orders;
 pub mod rows;
+mod yields;
 
 // The most heads that a parlour has, the bytes of a row of names of so many, and of their image.
 pub const LARGEST: u8 = 8;
@@ -60,6 +61,9 @@ const LENGTHS: [usize; STALLS + 1] = [0, 0, 18, 31, 48, 69, 94, 123, LONGEST];
 impl Head {
     pub const YIELD_LIMIT: u16 = 999;
 
+    // The yield of a head that was not milked, and of a stall never heard.
+    pub const NO_YIELD: u16 = 0xffff;
+
     pub fn label_limit(n: u8) -> usize
         ensures { λ r. ⌜ r ≡ labelLimit n ⌝ }
     {
@@ -75,7 +79,12 @@ impl Head {
         }
         image[0] = n;
         image[1] = stall;
-        Head { image }
+        let m = bytes::wide(n);
+        let begun = yields::with_no_yields(image, 2, 1);
+        let at = bytes::yields_place(length_of(m), m);
+        Head {
+            image: yields::with_no_yields(begun, at, m),
+        }
     }
 }
 
@@ -122,7 +131,7 @@ fn check_body(image: &[u8], n: u8, own: u8) -> Checked
     if bytes::bad_stall(n, own) {
         return Checked::Refused(3);
     }
-    if bytes::bad_yields(image, n, own) {
+    if yields::bad_yields(image, n, own) {
         return Checked::Refused(4);
     }
     if names::bad_names(image, n, own) {

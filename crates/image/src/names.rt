@@ -13,6 +13,7 @@ use crate::bytes::row_place;
 use crate::bytes::wide;
 use crate::bytes::word_at;
 use crate::bytes::yields_place;
+use crate::yields::is_not_milked;
 
 // A name in a column is bad by itself.
 fn bad_name(n: usize, limit: usize, column: usize, partner: usize, label: usize) -> bool
@@ -82,7 +83,7 @@ fn bad_row(
     if heard {
         return bad;
     }
-    let filled = some_in_row(image, n, at) | !(word_at(image, yields) == 0);
+    let filled = some_in_row(image, n, at) | !is_not_milked(word_at(image, yields));
     bad | filled
 }
 

@@ -4,7 +4,7 @@ use mathlib.Core.Path.{_≡_, refl}
 use mathlib.Core.Bool.{Bool, true, false, true≢false}
 use mathlib.Core.List.{List, [], _∷_, _++_, map, flatMap}
 use lib.ListN.{replicate}
-use Rattle.image.specs.Examples.{listing}
+use Rattle.image.specs.Examples.{notMilked, listing}
 use Rattle.merge.specs.Examples.{evaluated as merge-evaluated}
 use Rattle.head.specs.Calls.{milked, milkingCall}
 use Rattle.line.specs.Digits.{isDigit, digitValue, allDigits, wholePairs, pairValue, bytesOf, digitOf, digitsOf}
@@ -123,7 +123,7 @@ opening-examples : answersTo shut (map digitsOf
 unfolding answered replyTo answersTo
 opening-examples = refl
 
--- 3 before 4, 3 before 7, yields of 999 and 1000, and the image that they leave
+-- 3 before 4, 3 before 7, yields of 999, 1000, fe00 and ffff, and the image that they leave
 stall-examples : answersTo shut (map digitsOf
     ((0x01 ∷ 0x02 ∷ [])
     ∷ (0x02 ∷ 0x00 ∷ 0x03 ∷ 0xe8 ∷ [])
@@ -132,8 +132,11 @@ stall-examples : answersTo shut (map digitsOf
     ∷ (0x03 ∷ 0x02 ∷ 0x02 ∷ [])
     ∷ (0x02 ∷ 0x01 ∷ 0x03 ∷ 0xe7 ∷ [])
     ∷ (0x02 ∷ 0x01 ∷ 0x03 ∷ 0xe8 ∷ [])
+    ∷ (0x02 ∷ 0x01 ∷ 0xfe ∷ 0x00 ∷ [])
+    ∷ (0x02 ∷ 0x01 ∷ 0xff ∷ 0xff ∷ [])
     ∷ (0x04 ∷ 0x01 ∷ [])
     ∷ []))
-    ≡ (0 ∷ []) ∷ (3 ∷ []) ∷ (3 ∷ []) ∷ (3 ∷ []) ∷ (7 ∷ []) ∷ (0 ∷ []) ∷ (4 ∷ []) ∷ (0 ∷ 2 ∷ 1 ∷ 0x03 ∷ 0xe7 ∷ replicate 14 0) ∷ []
+    ≡ (0 ∷ []) ∷ (3 ∷ []) ∷ (3 ∷ []) ∷ (3 ∷ []) ∷ (7 ∷ []) ∷ (0 ∷ []) ∷ (4 ∷ []) ∷ (4 ∷ []) ∷ (4 ∷ [])
+    ∷ (0 ∷ ((2 ∷ 1 ∷ 0x03 ∷ 0xe7 ∷ replicate 8 0) ++ notMilked 2 ++ replicate 2 0)) ∷ []
 unfolding answered replyTo answersTo
 stall-examples = refl

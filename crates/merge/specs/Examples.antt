@@ -3,7 +3,7 @@ use Prim.Native.Nat.{ℕ, zero, suc}
 use mathlib.Core.Path.{_≡_, refl}
 use mathlib.Core.Bool.{true}
 use mathlib.Core.List.{List, [], _∷_, _++_}
-use lib.ListN.{getD, set, replicate}
+use lib.ListN.{getD, set}
 use Rattle.image.specs.Fresh.{freshImage}
 use Rattle.image.specs.Encode.{encode, tableOf}
 use Rattle.image.specs.Examples.{evaluated as image-evaluated, nine-first, nine-second, listing}
@@ -70,7 +70,7 @@ nine-example : undecided 2 1 (tableOf nine-first 2) 2 (tableOf nine-second 2) �
 unfolding evaluated
 nine-example = refl
 
--- the listing: stall 1 milked with 18, then 1-2 and 2-3: the image of head 3
-listing-example : imageOf (run 3 ((3 ∷ 1 ∷ 0 ∷ 0x12 ∷ replicate 27 0) ∷ freshImage 3 2 ∷ freshImage 3 3 ∷ []) ((1, 2) ∷ (2, 3) ∷ [])) 3 ≡ listing
+-- the listing: stall 1 milked with 18, the others not, then 1-2 and 2-3: the image of head 3
+listing-example : imageOf (run 3 (set (set (freshImage 3 1) 2 0) 3 0x12 ∷ freshImage 3 2 ∷ freshImage 3 3 ∷ []) ((1, 2) ∷ (2, 3) ∷ [])) 3 ≡ listing
 unfolding evaluated meet run
 listing-example = refl

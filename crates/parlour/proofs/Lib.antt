@@ -12,5 +12,6 @@ pub mod Milkings
 pub mod Meetings
 pub mod Splits
 pub mod Runs
+pub mod NotMilked
 pub mod Existence
 pub mod Theory

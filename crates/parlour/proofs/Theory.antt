@@ -5,6 +5,7 @@ use Rattle.head.proofs.wilbryn_milking.Met as milked
 use Rattle.head.proofs.wilbryn_meeting.Met as met
 use Rattle.parlour.specs.Theory.{Theory, Returns}
 use Rattle.parlour.proofs.Runs.{claim, verdicts-are-best}
+use Rattle.parlour.proofs.NotMilked.{not-milked}
 use Rattle.parlour.proofs.Existence.{runs-exist}
 
 pub theory : (n : ℕ) → Theory n
@@ -12,6 +13,7 @@ theory n =
     record {
       claim = λ calls images. claim;
       verdicts-are-best = λ calls images. verdicts-are-best;
+      not-milked = λ calls images. not-milked;
       runs-exist = runs-exist n;
     }
 

@@ -36,8 +36,8 @@ four-verdicts : verdicts (events four) (meetings four) 4 3 4 ≡ 1 ∷ 2 ∷ 1 �
 unfolding evaluated four
 four-verdicts = refl
 
--- N = 3, 1-2, 1-3, then three times 1-2, newest first: labels 0, 0, 1, 2, 1, of which head 3 still has 0. It also has the yield 18 of stall 1, and the others have
--- the yield 7 of stall 3, which has 500 by now.
+-- N = 3, 1-2, 1-3, then three times 1-2, newest first: labels 0, 0, 1, 2, 1, of which head 3 still has 0. It also has the yield 18 of stall 1, and stall 2 as not
+-- milked, which it was when they met; the others have the yield 7 of stall 3, which has 500 by now.
 again : List Item
 again =
     meeting 1 2 (replicate 3 0)
@@ -65,7 +65,7 @@ again-images : (imageAfter 3 (history 3 again) 1
     ++ (3 ∷ 0 ∷ 1 ∷ 0 ∷ 1 ∷ 0 ∷ [])
     ++ (2 ∷ 0 ∷ 1 ∷ 0 ∷ 0 ∷ 0 ∷ [])
     ++ (3 ∷ 0 ∷ 1 ∷ 0 ∷ 1 ∷ 0 ∷ [])
-    ++ (0x00 ∷ 0x12 ∷ 0x00 ∷ 0x00 ∷ 0x00 ∷ 0x07 ∷ [])
+    ++ (0x00 ∷ 0x12 ∷ 0xff ∷ 0xff ∷ 0x00 ∷ 0x07 ∷ [])
     ++ (5 ∷ 7 ∷ 5 ∷ []))
 unfolding evaluated again
 again-images = (refl, refl)

@@ -21,13 +21,13 @@ events [] k = Meetings.meeting 1 2
 events (milking stall yield ∷ earlier) k = events earlier k
 events (meeting first second buffer ∷ earlier) k = cond (eqb k (meetings earlier)) (Meetings.meeting first second) (events earlier k)
 
--- "a head's current yield": "that of its last milking .. that counts, or the fresh one"
+-- "a head's current yield": "that of its last milking .. that counts", or not milked
 unfoldable pub yieldAfter : List Item → ℕ → ℕ
 yieldAfter [] r = noYield
 yieldAfter (milking stall yield ∷ earlier) r = cond (eqb stall r) yield (yieldAfter earlier r)
 yieldAfter (meeting first second buffer ∷ earlier) r = yieldAfter earlier r
 
--- "A stall's yield at a meeting is that of its last milking before it": the yield of stall r at the meeting at place k
+-- "A stall's yield at a meeting is that of its last milking before it that counts", or not milked: the yield of stall r at the meeting at place k
 unfoldable pub yieldAt : List Item → ℕ → ℕ → ℕ
 yieldAt [] k r = noYield
 yieldAt (milking stall yield ∷ earlier) k r = yieldAt earlier k r

@@ -7,4 +7,5 @@ pub mod Call
 pub mod Run
 pub mod Claim
 pub mod Verdict
+pub mod NotMilked
 pub mod Theory

@@ -29,7 +29,7 @@ tableAt n h yields m p current =
     record {
       current = current;
       names = λ s r. nameIn n h r (named h m p s r);
-      -- "One **yield** for each stall: the current yield it had at its latest. None has yield 0."
+      -- "One **yield** for each stall: the current yield it had at its latest." That of a stall never heard: not milked.
       yields = λ r. yields (latest h m p r) r;
       -- "**Order mark** (r, s): set when the latest of r lies in the past of the latest of s."
       order = λ r s. inPast h (latest h m p r) (latest h m p s);

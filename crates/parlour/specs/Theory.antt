@@ -10,6 +10,7 @@ use Rattle.parlour.specs.Item.{Item, milking, meeting}
 use Rattle.parlour.specs.Run.{Images, Called, Run}
 use Rattle.parlour.specs.Claim.{items, Claim}
 use Rattle.parlour.specs.Verdict.{VerdictsAreBest}
+use Rattle.parlour.specs.NotMilked.{NotMilked}
 
 -- the items are of this parlour: "a milking of one head with any yield, and a meeting of two different heads"
 abbrev pub Items : ℕ → List Item → Type 0
@@ -29,6 +30,8 @@ pub record Theory (n : ℕ) : Type 0 where
   pub claim : (calls : List Called) (images : Images) → Run n calls images → Claim n calls images
   -- Demand 2.
   pub verdicts-are-best : (calls : List Called) (images : Images) → Run n calls images → VerdictsAreBest n calls
+  -- Request 2026-01: ffff "means not milked".
+  pub not-milked : (calls : List Called) (images : Images) → Run n calls images → NotMilked n calls images
   -- Every list has its calls.
   pub runs-exist : 2 ≤ n → n ≤ largest → (list : List Item) → Items n list → RunOf n list
 

@@ -1,13 +1,19 @@
--- Document 01's listing, from input to output, by evaluation of what lines alone say.
+-- Document 01's listing, and a head that meets before it is milked, from input to output, by evaluation of what lines alone say.
 use Prim.Native.Nat.{ℕ}
 use mathlib.Core.Path.{_≡_, refl}
 use mathlib.Core.List.{List, [], _∷_, _++_}
+use lib.ListN.{replicate}
 use Rattle.image.specs.Examples.{listing}
+use Rattle.head.specs.HeardOrder.{chosen}
+use Rattle.head.proofs.HeardLists.{list-exists}
 use Rattle.line.specs.Digits.{digitsOf}
 use Rattle.line.specs.Examples.{answered, frames, answers}
+use Rattle.parlour.specs.Item.{milking, meeting}
+use Rattle.parlour.specs.Table.{imageAfter}
 use Rattle.parlour.specs.Examples.{evaluated}
 use Rattle.stream.specs.Stream.{newline}
 use Rattle.sessions.specs.Lines.{opens, heads, itemsOf, items}
+use Rattle.sessions.specs.Answer.{HeardBytes}
 use Rattle.sessions.specs.Input.{linesFrom, linesOf, AnswersTo, none, one-more}
 
 -- as text, each with a newline behind it
@@ -35,3 +41,26 @@ listing-example =
     _ (0x00 ∷ 0x00 ∷ 0x00 ∷ 0x00 ∷ 0x00 ∷ []) refl)
     _ (0x00 ∷ 0x00 ∷ 0x01 ∷ 0x01 ∷ 0x00 ∷ []) refl)
     _ (0x00 ∷ listing) refl
+
+-- head 2 meets before it is milked, and head 1 gives 0: the heard list of head 2 has 0 for stall 1 and ffff for stall 2
+not-milked-list : HeardBytes 2 (meeting 1 2 (replicate 2 0) ∷ milking 1 0 ∷ []) 2 (0x00 ∷ 0x02 ∷ 0x01 ∷ 0x00 ∷ 0x00 ∷ 0x02 ∷ 0xff ∷ 0xff ∷ [])
+unfolding answered evaluated chosen
+not-milked-list =
+    record {
+      count = 2;
+      records = 0x01 ∷ 0x00 ∷ 0x00 ∷ 0x02 ∷ 0xff ∷ 0xff ∷ [];
+      heard = list-exists (imageAfter 2 (meeting 1 2 (replicate 2 0) ∷ milking 1 0 ∷ []) 2) 2 2;
+      bytes-are = refl;
+    }
+
+not-milked-example : AnswersTo (linesOf (text ((0x01 ∷ 0x02 ∷ []) ∷ (0x02 ∷ 0x01 ∷ 0x00 ∷ 0x00 ∷ []) ∷ (0x03 ∷ 0x01 ∷ 0x02 ∷ []) ∷ (0x05 ∷ 0x02 ∷ []) ∷ [])))
+    (text ((0x00 ∷ []) ∷ (0x00 ∷ []) ∷ (0x00 ∷ 0x00 ∷ 0x00 ∷ 0x00 ∷ []) ∷ (0x00 ∷ 0x02 ∷ 0x01 ∷ 0x00 ∷ 0x00 ∷ 0x02 ∷ 0xff ∷ 0xff ∷ []) ∷ []))
+unfolding answered evaluated linesFrom text opens heads itemsOf items
+not-milked-example =
+    one-more
+    (one-more
+    (one-more
+    (one-more none (digitsOf (0x01 ∷ 0x02 ∷ [])) (0x00 ∷ []) refl)
+    (digitsOf (0x02 ∷ 0x01 ∷ 0x00 ∷ 0x00 ∷ [])) (0x00 ∷ []) refl)
+    (digitsOf (0x03 ∷ 0x01 ∷ 0x02 ∷ [])) (0x00 ∷ 0x00 ∷ 0x00 ∷ 0x00 ∷ []) refl)
+    (digitsOf (0x05 ∷ 0x02 ∷ [])) (0x00 ∷ 0x02 ∷ 0x01 ∷ 0x00 ∷ 0x00 ∷ 0x02 ∷ 0xff ∷ 0xff ∷ []) not-milked-list

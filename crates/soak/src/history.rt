@@ -1,6 +1,6 @@
-// The history of a list, written from document 01 alone: it is handed the items, and looks at no
-// image and no answer. A meeting is its place in the history, from 1; 0 is none. Whose news is newer
-// is read from places and pasts; labels decide nothing here.
+// The history of a list, written from document 01 and its requests alone: it is handed the items, and
+// looks at no image and no answer. A meeting is its place in the history, from 1; 0 is none. Whose
+// news is newer is read from places and pasts; labels decide nothing here.
 //
 // It is one run of words: the number of meetings and what each head has, then 16 words for each
 // meeting, then for each meeting and each place whether that place lies in its past.
@@ -33,6 +33,9 @@ const LAST: u16 = 0;
 
 const CURRENT: u16 = 1;
 
+// The yield of a head that was not milked, and of a stall never heard.
+const NOT_MILKED: u16 = 0xffff;
+
 // A meeting as a name says it.
 pub struct Named {
     pub first: u16,
@@ -52,8 +55,14 @@ fn past_at(of: u16, place: u16) -> usize {
     PASTS + 512 * (of as usize) + (place as usize)
 }
 
+// No meeting, and no head was milked.
 pub fn open(history: &mut [u16]) {
     clear(history);
+    let mut head = 0u16;
+    while head < 8 {
+        head += 1;
+        put(history, head_at(head, CURRENT), NOT_MILKED);
+    }
 }
 
 pub fn count(history: &[u16]) -> u16 {
@@ -100,9 +109,11 @@ pub fn latest(history: &[u16], head: u16, r: u16) -> u16 {
     newest(history, last(history, head), r)
 }
 
-// The yield that a stall had at a meeting of it.
+// The yield that a stall had at a meeting of it; not milked where there is none.
 pub fn yield_at(history: &[u16], place: u16, stall: u16) -> u16 {
-    if first_of(history, place) == stall {
+    if place == 0 {
+        NOT_MILKED
+    } else if first_of(history, place) == stall {
         get(history, meeting_at(place, FIRST_YIELD))
     } else {
         get(history, meeting_at(place, SECOND_YIELD))

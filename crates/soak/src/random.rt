@@ -90,12 +90,22 @@ fn buffer_length(random: &mut u64, n: u16) -> u16 {
     }
 }
 
+// A yield; one in five is over 999, and some of these lie at the upper end, ffff among them.
+fn new_yield(random: &mut u64) -> u16 {
+    let drawn = below(random, 1250);
+    if drawn < 1200 {
+        drawn
+    } else {
+        65535 - drawn % 10
+    }
+}
+
 // The next item: three in ten are milkings, one in five of them over 999; either head comes first.
 pub fn next_item(random: &mut u64, history: &[u16], n: u16, way: u16) -> Item {
     if below(random, 10) < 3 {
         return Item::Milking {
             stall: stall(random, n),
-            given: below(random, 1250),
+            given: new_yield(random),
         };
     }
     let pair = ordered_pair(random, history, n, way);

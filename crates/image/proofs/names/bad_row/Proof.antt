@@ -8,7 +8,7 @@ use mathlib.Core.List.{List}
 use lib.Dec.{eqb}
 use lib.ListN.{getD}
 use Rattle.image.specs.Stalls.{some}
-use Rattle.image.specs.Layout.{labelLimit, word, heardAt}
+use Rattle.image.specs.Layout.{labelLimit, noYield, word, heardAt}
 use Rattle.image.specs.Frame.{RowAt}
 use Rattle.image.specs.Check.{badName, badRow, badDiagonal, badUnheard}
 use Rattle.image.proofs.Places.{row-at-within}
@@ -25,23 +25,23 @@ module _ (s : List ℕ) (n limit own r at ownrow yields : ℕ) (bad : Bool) (w :
   no-name = eqb (getD s (ownrow + (r - 1) * 2) 0) 0
 
   -- what the code puts together is the definition's test
-  row-test : (x : ℕ) (some-name : Bool) → some-name ≡ some n (λ c. not (eqb (getD s (at + (c - 1) * 2) 0) 0)) → x ≡ word s yields
-      → (bad || differs || not (not no-name) && (some-name || not (eqb x 0))) ≡ badRow s n own r
+  row-test : (none some-name : Bool) → some-name ≡ some n (λ c. not (eqb (getD s (at + (c - 1) * 2) 0) 0)) → none ≡ eqb (word s yields) noYield
+      → (bad || differs || not (not no-name) && (some-name || not none)) ≡ badRow s n own r
   unfolding badRow badDiagonal badUnheard heardAt
-  row-test x some-name m y = rw (bad-is, m, y, limit-is, w .row-is, w .ownrow-is, w .yields-is)
+  row-test none some-name m y = rw (bad-is, m, y, limit-is, w .row-is, w .ownrow-is, w .yields-is)
 
   -- the row of a heard stall
   row-heard : not no-name ≡ true → (bad || differs) ≡ badRow s n own r
   row-heard e =
-      go (bad || differs) (not no-name) _ e ∙ row-test (word s yields) (some n (λ c. not (eqb (getD s (at + (c - 1) * 2) 0) 0))) refl refl
+      go (bad || differs) (not no-name) _ e ∙ row-test (eqb (word s yields) noYield) (some n (λ c. not (eqb (getD s (at + (c - 1) * 2) 0) 0))) refl refl
     where
       go : (b h z : Bool) → h ≡ true → b ≡ (b || not h && z)
       go true h z e = refl
       go false h z e = rw e
 
-  row-unheard : (x : ℕ) (some-name : Bool) → not no-name ≡ false → some-name ≡ some n (λ c. not (eqb (getD s (at + (c - 1) * 2) 0) 0)) → x ≡ word s yields
-      → (bad || differs || (some-name || not (eqb x 0))) ≡ badRow s n own r
-  row-unheard x some-name e m y = ap (λ h. bad || differs || not h && (some-name || not (eqb x 0))) (sym e) ∙ row-test x some-name m y
+  row-unheard : (none some-name : Bool) → not no-name ≡ false → some-name ≡ some n (λ c. not (eqb (getD s (at + (c - 1) * 2) 0) 0)) → none ≡ eqb (word s yields) noYield
+      → (bad || differs || (some-name || not none)) ≡ badRow s n own r
+  row-unheard none some-name e m y = ap (λ h. bad || differs || not h && (some-name || not none)) (sym e) ∙ row-test none some-name m y
 
 pub bad-row-spec : {M : Type 1} → statement M
 bad-row-spec =
@@ -62,4 +62,5 @@ bad-row-spec =
     (λ c. row-heard (c .before .before .before .before .before .before .before .before .args .image .now) (c .before .before .before .before .before .before .before .before .args .n) (c .before .before .before .before .before .before .before .before .args .limit) (c .before .before .before .before .before .before .before .before .args .own) (c .before .before .before .before .before .before .before .before .args .r) (c .before .before .before .before .before .before .before .before .args .at) (c .before .before .before .before .before .before .before .before .args .ownrow) (c .before .before .before .before .before .before .before .before .args .yields) (c .before .bad-in-row .result) (c .before .before .before .before .before .before .before .before .pre .0) (c .before .before .before .before .before .before .before .before .pre .1) (c .before .bad-in-row .ensures) (c .if1 .taken))
     (λ c κs. omega (arith, row-at-within (c .before .before .before .before .before .before .before .before .pre .0)))
     (λ c κs. omega (arith, row-at-within (c .before .before .before .before .before .before .before .before .before .pre .0)))
-    (λ c. row-unheard (c .before .before .before .before .before .before .before .before .before .before .args .image .now) (c .before .before .before .before .before .before .before .before .before .before .args .n) (c .before .before .before .before .before .before .before .before .before .before .args .limit) (c .before .before .before .before .before .before .before .before .before .before .args .own) (c .before .before .before .before .before .before .before .before .before .before .args .r) (c .before .before .before .before .before .before .before .before .before .before .args .at) (c .before .before .before .before .before .before .before .before .before .before .args .ownrow) (c .before .before .before .before .before .before .before .before .before .before .args .yields) (c .before .before .before .bad-in-row .result) (c .before .before .before .before .before .before .before .before .before .before .pre .0) (c .before .before .before .before .before .before .before .before .before .before .pre .1) (c .before .before .before .bad-in-row .ensures) (c .word-at .result) (c .before .some-in-row .result) (c .before .before .if1 .left) (c .before .some-in-row .ensures) (c .word-at .ensures)))
+    (λ c κs. search needs)
+    (λ c. row-unheard (c .before .before .before .before .before .before .before .before .before .before .before .args .image .now) (c .before .before .before .before .before .before .before .before .before .before .before .args .n) (c .before .before .before .before .before .before .before .before .before .before .before .args .limit) (c .before .before .before .before .before .before .before .before .before .before .before .args .own) (c .before .before .before .before .before .before .before .before .before .before .before .args .r) (c .before .before .before .before .before .before .before .before .before .before .before .args .at) (c .before .before .before .before .before .before .before .before .before .before .before .args .ownrow) (c .before .before .before .before .before .before .before .before .before .before .before .args .yields) (c .before .before .before .before .bad-in-row .result) (c .before .before .before .before .before .before .before .before .before .before .before .pre .0) (c .before .before .before .before .before .before .before .before .before .before .before .pre .1) (c .before .before .before .before .bad-in-row .ensures) (c .is-not-milked .result) (c .before .before .some-in-row .result) (c .before .before .before .if1 .left) (c .before .before .some-in-row .ensures) (c .is-not-milked .ensures ∙ ap (λ x. eqb x noYield) (c .before .word-at .ensures))))

@@ -10,8 +10,8 @@ use Rattle.image.specs.Layout.{word, isYield, yieldsPlace, yieldsFrom}
 use Rattle.image.specs.Frame.{Framed}
 use Rattle.image.specs.Check.{badYields}
 use Rattle.image.proofs.Places.{yields-from}
-use Rattle.image.proofs.bytes.bad_yields.Statement.{statement}
-use Rattle.image.proofs.bytes.bad_yields.Tie as tie
+use Rattle.image.proofs.yields.bad_yields.Statement.{statement}
+use Rattle.image.proofs.yields.bad_yields.Tie as tie
 
 yields-test : (s : List ℕ) (n own m at : ℕ) (is over : Bool) → Framed s n own → m ≡ n → at ≡ yieldsFrom (length s) m → is ≡ isYield (word s 2)
     → over ≡ some m (λ r. not (isYield (word s (at + (r - 1) * 2)))) → (not is || over) ≡ badYields s n
@@ -32,4 +32,4 @@ bad-yields-spec =
     (λ c.
     let start = c .before .before .before .before .before .before in
     yields-test _ _ _ _ _ _ _ (start .pre) (c .before .before .before .before .wide .ensures .0) (c .before .yields-place .ensures)
-    (c .before .before .is-yield .ensures ∙ ap isYield (c .before .before .before .word-at .ensures)) (c .some-no-yield .ensures)))
+    (c .before .before .is-yield .ensures ∙ ap isYield (c .before .before .before .word-at .ensures)) (c .some-bad-yield .ensures)))
