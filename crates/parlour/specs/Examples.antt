@@ -37,7 +37,7 @@ unfolding evaluated four
 four-verdicts = refl
 
 -- N = 3, 1-2, 1-3, then three times 1-2, newest first: labels 0, 0, 1, 2, 1, of which head 3 still has 0. It also has the yield 18 of stall 1, and stall 2 as not
--- milked, which it was when they met; the others have the yield 7 of stall 3, which has 500 by now.
+-- milked, as it was at its first meeting; the others have the yield 7 of stall 3, which has 500 by now.
 again : List Item
 again =
     meeting 1 2 (replicate 3 0)
