@@ -1,19 +1,13 @@
 -- Blocks of one width written into a list one after the other.
-use Prim.Native.Nat.{ℕ, zero, suc, _+_, _*_, _≤_}
+use Prim.Native.Nat.{ℕ, suc, _+_, _*_, _≤_}
 use mathlib.Core.Path.{_≡_, sym, ap, ap₂, _∙_}
 use mathlib.Core.List.{List, [], _++_, append-assoc, append-nil}
 use native.Mathlib.Omega.{arith}
 use native.Mathlib.Numerals.{add-one}
 use lib.ListN.{length, take, drop, length-append, take-append-drop}
-use lib.Seq.{paste, length-paste, length-take-le, take-at, drop-append-add, drop-drop}
+use lib.Seq.{paste, length-paste, length-take-le}
 use Rattle.image.specs.Stalls.{each}
-
--- the first k blocks have one width
-pub length-each-to : (w : ℕ) (f : ℕ → List ℕ) (k : ℕ) → ((r : ℕ) → 1 ≤ r → r ≤ k → length (f r) ≡ w) → length (each k f) ≡ k * w
-unfolding each
-length-each-to w f zero g = omega arith
-length-each-to w f (suc k) g =
-    length-append (each k f) (f (suc k)) ∙ omega (arith, length-each-to w f k (λ r a b. g r a (omega arith)), g (suc k) (omega arith) (omega arith))
+use Rattle.image.proofs.Overwrite.{behind}
 
 -- d with the first k blocks from place b on
 pub blocks : List ℕ → ℕ → ℕ → (ℕ → List ℕ) → ℕ → List ℕ
@@ -34,16 +28,12 @@ module _ (d l x : List ℕ) (b w k : ℕ) (f : ℕ → List ℕ) (wide : length 
   length-front : length front ≡ b + k * w
   length-front = length-append (take b d) (each k f) ∙ omega (arith, length-take-le b d (omega arith))
 
-  behind : drop (b + k * w + w) (front ++ drop (b + k * w) d) ≡ drop (b + k * w + w) d
-  behind =
-      ap (λ j. drop (j + w) (front ++ drop (b + k * w) d)) (sym length-front) ∙ drop-append-add front (drop (b + k * w) d) w ∙ drop-drop w (b + k * w) d
-
   pub blocks-next : paste l (b + k * w) x w ≡ blocks d b w f (k + 1)
   unfolding blocks each
   blocks-next =
       let e : b + k * w + w ≡ b + suc k * w = omega arith in
       rw (add-one k, so-far)
-      (ap₂ (λ p q. p ++ take w x ++ q) (take-at front (drop (b + k * w) d) (b + k * w) length-front) behind
+      (behind front d (take w x) (b + k * w) w length-front
       ∙ ap (λ r. front ++ r ++ drop (b + k * w + w) d) more
       ∙ ap₂ (λ p q. p ++ drop q d) (append-assoc (take b d) (each k f) (f (suc k))) e)
 

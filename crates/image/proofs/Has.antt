@@ -92,11 +92,16 @@ unfolding flatMap
 length-flatMap w f wide [] = omega arith
 length-flatMap w f wide (a ∷ l) = length-append (f a) (flatMap f l) ∙ omega (arith, length-flatMap w f wide l, wide a)
 
+-- the first k blocks have one width
+pub length-each-to : (w : ℕ) (f : ℕ → List ℕ) (k : ℕ) → ((r : ℕ) → 1 ≤ r → r ≤ k → length (f r) ≡ w) → length (each k f) ≡ k * w
+unfolding each
+length-each-to w f zero g = omega arith
+length-each-to w f (suc k) g =
+    length-append (each k f) (f (suc k)) ∙ omega (arith, length-each-to w f k (λ r a b. g r a (omega arith)), g (suc k) (omega arith) (omega arith))
+
 module _ (w : ℕ) (f : ℕ → List ℕ) (wide : (r : ℕ) → length (f r) ≡ w) where
   pub length-each : (n : ℕ) → length (each n f) ≡ n * w
-  unfolding each
-  length-each zero = omega arith
-  length-each (suc n) = length-append (each n f) (f (suc n)) ∙ omega (arith, length-each n, wide (suc n))
+  length-each n = length-each-to w f n (λ r a b. wide r)
 
   place-last : (i n : ℕ) → i + length (each n f) ≡ i + (suc n - 1) * w
   place-last i n = let e : suc n - 1 ≡ n = omega arith in rw (e, length-each n)

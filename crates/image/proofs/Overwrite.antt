@@ -1,4 +1,4 @@
--- A list overwritten from the front, element by element.
+-- A list overwritten: from the front element by element, at a place, and behind what is written.
 use Prim.Native.Nat.{ℕ, suc, _+_, _≤_, _<_}
 use mathlib.Core.Path.{_≡_, sym, ap, ap₂, _∙_}
 use mathlib.Core.List.{List, [], _∷_, _++_, append-nil}

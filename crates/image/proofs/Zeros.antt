@@ -1,4 +1,4 @@
--- Runs of zeros: a part of one, and blocks of them one after the other.
+-- Runs of zeros: a part of one, zeros behind other bytes, and blocks of zeros one after the other.
 use Prim.Native.Nat.{ℕ, zero, suc, _+_, _-_, _*_, _≤_}
 use mathlib.Core.Path.{_≡_, refl, sym, ap, ap₂, _∙_}
 use mathlib.Core.List.{List, _∷_, _++_, append-assoc}

@@ -8,7 +8,8 @@ use native.Mathlib.Decide.{decLe}
 use borrow.Author.Tests.{le-leb, lt-leb}
 use lib.ListN.{length, take, drop, set, replicate, drop-of-length-le}
 use lib.Seq.{paste, take-all}
-use Rattle.image.proofs.Blocks.{blocks, blocks-next, length-each-to}
+use Rattle.image.proofs.Has.{length-each-to}
+use Rattle.image.proofs.Blocks.{blocks, blocks-next}
 use Rattle.image.specs.Stalls.{each}
 use Rattle.image.specs.Layout.{largest, lengthOf, longest}
 use Rattle.image.specs.Fresh.{freshTable}

@@ -10,11 +10,10 @@ use lib.Seq.{length-take-le, take-at, drop-append-add}
 use Rattle.image.specs.Stalls.{each}
 use Rattle.image.specs.Layout.{rowPlace, yieldPlace, imageLength, ordersPlace, yieldsPlace, longestRow}
 use Rattle.image.specs.Frame.{Sized, Framed}
-use Rattle.image.proofs.Has.{length-each}
+use Rattle.image.proofs.Has.{length-each-to, length-each}
 use Rattle.image.proofs.Places.{row-within}
 use Rattle.merge.specs.Body.{sourceOf, sourceStall, pairAt, latestPair, bodyRow, bodyYield, padded, rowIn}
 use Rattle.merge.proofs.pairs.PairRows.{each-agree, length-choice, length-padded}
-use Rattle.image.proofs.Blocks.{length-each-to}
 
 -- what stands before the zeros
 pub take-padded : (n : ℕ) (l : List ℕ) → length l ≡ n * 2 → take (n * 2) (padded n l) ≡ l

@@ -10,8 +10,8 @@ use Rattle.image.specs.Layout.{orderWidth, orderPlace, ordersPlace, yieldsPlace
 use Rattle.image.specs.Stalls.{each}
 use Rattle.image.specs.Frame.{Sized}
 use Rattle.image.specs.Encode.{orderBytes}
-use Rattle.image.proofs.Has.{length-each}
-use Rattle.image.proofs.Blocks.{blocks, length-each-to, pasted-next, blocks-end}
+use Rattle.image.proofs.Has.{length-each-to, length-each}
+use Rattle.image.proofs.Blocks.{blocks, pasted-next, blocks-end}
 use Rattle.image.proofs.OrderEntry.{length-order, entry-within}
 use Rattle.image.proofs.Places.{yields-from}
 use Rattle.merge.specs.Body.{orderIn, rowIn}
