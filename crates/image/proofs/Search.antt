@@ -1,7 +1,7 @@
 -- Loops that look whether some of 1 to n passes a test, at places one width apart.
 use Prim.Native.Nat.{ℕ, zero, suc, _+_, _-_, _*_, _≤_, _<_}
 use mathlib.Core.Path.{_≡_, refl, sym, ap, ap₂, _∙_}
-use mathlib.Core.Bool.{Bool, false, _||_}
+use mathlib.Core.Bool.{Bool, true, false, _||_}
 use native.Mathlib.Omega.{arith}
 use Rattle.image.specs.Stalls.{some}
 
@@ -46,3 +46,15 @@ unfolding some
 some-agree zero f g e = refl
 some-agree (suc n) f g e =
     ap₂ _||_ (e (suc n) (omega arith) (omega arith)) (some-agree n f g (λ s a b. e s a (omega arith)))
+
+-- one test or the other
+pub some-or : (n : ℕ) (f g : ℕ → Bool) → (some n f || some n g) ≡ some n (λ r. f r || g r)
+unfolding some
+some-or zero f g = refl
+some-or (suc n) f g = shuffle (f (suc n)) (some n f) (g (suc n)) (some n g) ∙ ap (λ b. (f (suc n) || g (suc n)) || b) (some-or n f g)
+  where
+    shuffle : (a b c d : Bool) → ((a || b) || (c || d)) ≡ ((a || c) || (b || d))
+    shuffle true b c d = refl
+    shuffle false true true d = refl
+    shuffle false true false d = refl
+    shuffle false false c d = refl

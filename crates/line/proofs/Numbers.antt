@@ -21,7 +21,7 @@ use Rattle.head.specs.Calls.{Outcome, milked, milkingCall}
 use Rattle.head.specs.Heard.{recordOf, HeardList, HeardInto, HeardFrom, HeardCall}
 use Rattle.merge.specs.Verdict.{undecided}
 use Rattle.merge.specs.Call.{MeetingOutcome, refusedMeeting, acceptedMeeting, metTogether, metGood, metChecked, meetingCall}
-use Rattle.merge.proofs.label.NewLabel.{newLabel-limit}
+use Rattle.merge.proofs.label.NewLabel.{newLabel-most}
 
 -- a milking answers a number of 0 to 6
 pub milking-number : (s : List ℕ) (yield : ℕ) → milkingCall s yield .answer ≤ 6
@@ -49,7 +49,7 @@ module _ (s u buffer : List ℕ) where
   together-number n p q l =
       either Small (undecided n p (tableOf s n) q (tableOf u n)) {x = refusedMeeting s u buffer 9} {y = acceptedMeeting s u buffer n p q}
       (omega arith)
-      (omega (arith, newLabel-limit n p (tableOf s n) q (tableOf u n)))
+      (omega (arith, newLabel-most n p (tableOf s n) q (tableOf u n)))
 
   good-number : (h g : Header) → h .n ≤ largest → metGood s u buffer h g .answer ≤ 265
   unfolding metGood

@@ -20,7 +20,7 @@ use Rattle.image.proofs.Accepted.{accepted}
 use Rattle.head.specs.Calls.{refused, accepted as done, withCurrent, milked, milkingCall}
 use Rattle.merge.specs.Verdict.{undecided}
 use Rattle.merge.specs.Call.{MeetingOutcome, refusedMeeting, acceptedMeeting, metTogether, metGood, metChecked, meetingCall}
-use Rattle.merge.proofs.label.NewLabel.{newLabel-limit}
+use Rattle.merge.proofs.label.NewLabel.{newLabel-most}
 use Rattle.line.specs.Parlour.{stateLength, headsOf, isOpen, slotPlace, imageOf, withImage, freshState}
 use Rattle.line.specs.Answer.{Reply, answerBytes, refusal, opening, milkedBy, milking, metBy, meetingOf, meeting, showing, HeardAnswer, Replies}
 use Rattle.line.specs.declared.frame.Frame.{Frame}
@@ -49,7 +49,7 @@ module _ (s u buffer : List ℕ) where
   unfolding metTogether
   together-keeps n p q l =
       either Kept (undecided n p (tableOf s n) q (tableOf u n)) {x = refusedMeeting s u buffer 9} {y = acceptedMeeting s u buffer n p q} (λ _. (refl, refl))
-      (λ k. absurd (omega (arith, newLabel-limit n p (tableOf s n) q (tableOf u n))))
+      (λ k. absurd (omega (arith, newLabel-most n p (tableOf s n) q (tableOf u n))))
 
   good-keeps : (h g : Header) → h .n ≤ largest → Kept (metGood s u buffer h g)
   unfolding metGood

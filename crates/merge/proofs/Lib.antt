@@ -2,5 +2,6 @@
 -- Here are those that several themes use, and the laws for callers. What crates above cite is `pub mod`.
 pub mod ByStalls
 pub mod Frames
+pub mod Heads
 pub mod Latests
 pub mod Theory

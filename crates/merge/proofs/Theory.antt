@@ -21,7 +21,7 @@ use Rattle.merge.specs.Verdict.{undecided}
 use Rattle.merge.specs.Merged.{merged}
 use Rattle.merge.specs.Call.{MeetingOutcome, refusedMeeting, acceptedMeeting, metTogether, metGood, metChecked, meetingCall}
 use Rattle.merge.specs.Theory.{Theory}
-use Rattle.merge.proofs.label.NewLabel.{newLabel-limit, newLabel-lowest, newLabel-free}
+use Rattle.merge.proofs.label.NewLabel.{newLabel-most, newLabel-limit, newLabel-lowest, newLabel-free}
 use Rattle.merge.proofs.meeting.AfterMeeting.{take-each}
 use Rattle.merge.proofs.meeting.MeetingCalls.{apart, one-parlour}
 use Rattle.merge.proofs.meeting.AfterLaws as laws
@@ -122,7 +122,7 @@ module _ (s u buffer : List ℕ) where
         ∙ ap (λ t. cond t (refusedMeeting first second again 9) (acceptedMeeting first second again (w .n) (w .p) (w .q))) (laws.meeting-decided a b (w .differ) (w .decided))
 
     again-decided : meetingCall (meetingCall s u buffer .first) (meetingCall s u buffer .second) again .answer < 256
-    again-decided = rw accepted-again (omega (arith, newLabel-limit (w .n) (w .p) (tableOf first (w .n)) (w .q) (tableOf second (w .n)), accepted s _ (w .first-passes) .frame .n-to))
+    again-decided = rw accepted-again (omega (arith, newLabel-most (w .n) (w .p) (tableOf first (w .n)) (w .q) (tableOf second (w .n)), accepted s _ (w .first-passes) .frame .n-to))
 
     again-zeros : meetingCall (meetingCall s u buffer .first) (meetingCall s u buffer .second) again .verdicts ≡ replicate (length again) 0
     again-zeros =

@@ -23,7 +23,7 @@ use Rattle.merge.specs.Merged.{merged, verdictBytes}
 use Rattle.merge.specs.Verdict.{undecided}
 use Rattle.merge.specs.Call.{MeetingOutcome, refusedMeeting, acceptedMeeting, metTogether}
 use Rattle.merge.proofs.pairs.PairRows.{each-agree}
-use Rattle.merge.proofs.label.NewLabel.{newLabel-limit}
+use Rattle.merge.proofs.label.NewLabel.{newLabel-most, newLabel-limit}
 use Rattle.merge.proofs.meeting.AfterLaws.{meeting-short, meeting-called, meeting-accepted}
 use Rattle.parlour.specs.Item.{Item, meeting, counts}
 use Rattle.parlour.specs.History.{meetings, events, yieldAfter, yieldAt}
@@ -126,7 +126,7 @@ module _ {n : ℕ} {l : List Item} {images : Images} (w : Kept n l images) (p q 
       }
     where
       go : (t : Bool) → eqb (length buffer) n ≡ t → ltb answer 256 ≡ t
-      go true e = lt-ltb answer 256 (omega (arith, answer-in (eqb-true _ n e), w .n-to))
+      go true e = lt-ltb answer 256 (omega (arith, ap (λ o. o .answer) (taken (eqb-true _ n e)), newLabel-most n p a q b, w .n-to))
       go false e = let d : answer ≡ 256 + 8 = ap (λ o. o .answer) (short (eqb-false _ n e)) in le-ltb answer 256 (omega arith)
 
   -- who takes part in it

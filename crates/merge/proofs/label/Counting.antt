@@ -1,42 +1,50 @@
--- How many of 0, 1, .. pass a test: each name of a pair has one label, so the names of n rows of two tables leave one of 0 to 4 × n unused.
-use Prim.Native.Nat.{ℕ, zero, suc, _+_, _*_, _≤_, _<_}
-use mathlib.Core.Path.{_≡_, refl}
+-- How many labels the names of a pair have: each name has one, so two columns of n rows in two tables have at most 4 × n.
+use Prim.Native.Nat.{ℕ, zero, suc, _+_, _≤_, _<_}
+use mathlib.Core.Path.{_≡_, refl, sym, ap, _∙_, fun-ext}
 use mathlib.Core.Bool.{Bool, true, false, _&&_, _||_, cond}
 use native.Mathlib.Omega.{arith}
+use native.Mathlib.Decide.{ℕ-discrete}
 use borrow.Author.Tests.{eqb-true, ne-eqb}
 use lib.Dec.{eqb}
 use Rattle.image.specs.Stalls.{some}
 use Rattle.image.specs.Encode.{Table}
 use Rattle.image.specs.declared.Name.{Name}
 use Rattle.image.specs.declared.Name.the-variants.{Never, With}
-use Rattle.merge.specs.Label.{isMeeting, rowHas, labelUsed}
+use Rattle.image.proofs.Search.{some-or}
+use Rattle.merge.specs.Label.{isMeeting, rowHas, labelUsed, pairNames}
 
 -- how many of 0 to t - 1 pass
 count : ℕ → (ℕ → Bool) → ℕ
 count zero u = 0
 count (suc t) u = count t u + cond (u t) 1 0
 
-count-all : (t : ℕ) (u : ℕ → Bool) → ((k : ℕ) → k < t → u k ≡ true) → count t u ≡ t
+-- How many of 0 to t - 1 pass: at least m where all below m do,
+count-below : (t m : ℕ) (u : ℕ → Bool) → m ≤ t → ((k : ℕ) → k < m → u k ≡ true) → m ≤ count t u
 unfolding count
-count-all zero u f = refl
-count-all (suc t) u f = rw (f t (omega arith), count-all t u (λ k l. f k (omega arith))) (omega arith)
+count-below zero m u l f = omega arith
+count-below (suc t) m u l f =
+    elim (ℕ-discrete m (suc t)) [
+      | yes i ↦ rw (f t (omega arith)) (omega (arith, count-below t t u (omega arith) (λ k j. f k (omega arith))))
+      | no i ↦ omega (arith, count-below t m u (omega arith) f)
+    ]
 
+-- and none where none does
 count-none : (t : ℕ) (u : ℕ → Bool) → ((k : ℕ) → k < t → u k ≡ false) → count t u ≡ 0
 unfolding count
 count-none zero u f = refl
 count-none (suc t) u f = rw (f t (omega arith), count-none t u (λ k l. f k (omega arith)))
 
--- of one test or the other
-count-or : (t : ℕ) (u v : ℕ → Bool) → count t (λ k. u k || v k) ≤ count t u + count t v
+-- one test or the other, and both
+count-or : (t : ℕ) (u v : ℕ → Bool) → count t (λ k. u k || v k) + count t (λ k. u k && v k) ≡ count t u + count t v
 unfolding count
-count-or zero u v = omega arith
-count-or (suc t) u v = go (u t) (v t) (count t u) (count t v) (count-or t u v)
+count-or zero u v = refl
+count-or (suc t) u v = go (u t) (v t) (count t (λ k. u k || v k)) (count t (λ k. u k && v k)) (count t u) (count t v) (count-or t u v)
   where
-    go : (a b : Bool) (y z : ℕ) {x : ℕ} → x ≤ y + z → x + cond (a || b) 1 0 ≤ y + cond a 1 0 + (z + cond b 1 0)
-    go true true y z l = omega arith
-    go true false y z l = omega arith
-    go false true y z l = omega arith
-    go false false y z l = omega arith
+    go : (a b : Bool) (x y z w : ℕ) → x + y ≡ z + w → x + cond (a || b) 1 0 + (y + cond (a && b) 1 0) ≡ z + cond a 1 0 + (w + cond b 1 0)
+    go true true x y z w e = omega arith
+    go true false x y z w e = omega arith
+    go false true x y z w e = omega arith
+    go false false x y z w e = omega arith
 
 -- a test that one number passes
 count-one : (t l : ℕ) → count t (eqb l) ≤ 1
@@ -57,22 +65,49 @@ count-meeting t partner (With m) = go (eqb (m .partner) partner)
     go true = count-one t (m .label)
     go false = omega (arith, count-none t (λ k. false) (λ k l. refl))
 
-count-row : (t p q r : ℕ) (a : Table) → count t (λ k. rowHas p q a k r) ≤ 2
-count-row t p q r a =
-    omega (arith, count-or t (λ k. isMeeting q k (a .names r p)) (λ k. isMeeting p k (a .names r q)), count-meeting t q (a .names r p), count-meeting t p (a .names r q))
-
-count-rows : (t d n : ℕ) (f : ℕ → ℕ → Bool) → ((r : ℕ) → count t (λ k. f k r) ≤ d) → count t (λ k. some n (f k)) ≤ d * n
+count-rows : (t n : ℕ) (f : ℕ → ℕ → Bool) → ((r : ℕ) → count t (λ k. f k r) ≤ 1) → count t (λ k. some n (f k)) ≤ n
 unfolding some
-count-rows t d zero f g = omega (arith, count-none t (λ k. false) (λ k l. refl))
-count-rows t d (suc n) f g =
-    omega (arith, count-or t (λ k. f k (suc n)) (λ k. some n (f k)), g (suc n), count-rows t d n f g)
+count-rows t zero f g = omega (arith, count-none t (λ k. false) (λ k l. refl))
+count-rows t (suc n) f g =
+    omega (arith, count-or t (λ k. f k (suc n)) (λ k. some n (f k)), g (suc n), count-rows t n f g)
 
-count-used : (t n p : ℕ) (a : Table) (q : ℕ) (b : Table) → count t (labelUsed n p a q b) ≤ 4 * n
+-- column c names a meeting with this partner that has label k, in some row
+abbrev columnHas : ℕ → ℕ → ℕ → Table → ℕ → Bool
+columnHas n c partner a k = some n (λ r. isMeeting partner k (a .names r c))
+
+count-column : (t n c partner : ℕ) (a : Table) → count t (columnHas n c partner a) ≤ n
+count-column t n c partner a = count-rows t n (λ k r. isMeeting partner k (a .names r c)) (λ r. count-meeting t partner (a .names r c))
+
+-- the names of the pair stand in two columns of each table
+count-some-or : (t n : ℕ) (f g : ℕ → ℕ → Bool)
+    → count t (λ k. some n (λ r. f k r || g k r)) + count t (λ k. some n (f k) && some n (g k)) ≡ count t (λ k. some n (f k)) + count t (λ k. some n (g k))
+count-some-or t n f g =
+    ap (λ u. count t u + count t (λ k. some n (f k) && some n (g k))) (fun-ext (λ k. sym (some-or n (f k) (g k)))) ∙ count-or t (λ k. some n (f k)) (λ k. some n (g k))
+
+-- some row of the table has label k
+abbrev tableHas : ℕ → ℕ → ℕ → Table → ℕ → Bool
+tableHas n p q a k = some n (rowHas p q a k)
+
+count-table : (t n p q : ℕ) (a : Table) → count t (tableHas n p q a) ≤ count t (columnHas n p q a) + count t (columnHas n q p a)
+count-table t n p q a = omega (arith, count-some-or t n (λ k r. isMeeting q k (a .names r p)) (λ k r. isMeeting p k (a .names r q)))
+
+count-used : (t n p : ℕ) (a : Table) (q : ℕ) (b : Table)
+    → count t (labelUsed n p a q b) + count t (λ k. tableHas n p q a k && tableHas n p q b k) ≡ count t (tableHas n p q a) + count t (tableHas n p q b)
 unfolding labelUsed
-count-used t n p a q b =
-    count-rows t 4 n (λ k r. rowHas p q a k r || rowHas p q b k r)
-    (λ r. omega (arith, count-or t (λ k. rowHas p q a k r) (λ k. rowHas p q b k r), count-row t p q r a, count-row t p q r b))
+count-used t n p a q b = count-some-or t n (rowHas p q a) (rowHas p q b)
 
--- so not all of 0 to 4 × n are used
-pub not-all-used : (n p : ℕ) (a : Table) (q : ℕ) (b : Table) → ((k : ℕ) → k < 4 * n + 1 → labelUsed n p a q b k ≡ true) → ⊥
-not-all-used n p a q b f = omega (arith, count-used (4 * n + 1) n p a q b, count-all (4 * n + 1) (labelUsed n p a q b) f)
+-- so of any two tables not all of 0 to 4 × n are used
+pub not-all-used : (n p : ℕ) (a : Table) (q : ℕ) (b : Table) → ((k : ℕ) → k < pairNames n + 1 → labelUsed n p a q b k ≡ true) → ⊥
+not-all-used n p a q b f =
+    let t = pairNames n + 1 in
+    omega (
+      arith,
+      count-below t t (labelUsed n p a q b) (omega arith) f,
+      count-used t n p a q b,
+      count-table t n p q a,
+      count-column t n p q a,
+      count-column t n q p a,
+      count-table t n p q b,
+      count-column t n p q b,
+      count-column t n q p b,
+    )

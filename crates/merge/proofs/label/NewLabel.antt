@@ -1,5 +1,5 @@
 -- The label of a meeting is free, the lowest that is, and within the limit.
-use Prim.Native.Nat.{ℕ, zero, suc, _≤_, _<_}
+use Prim.Native.Nat.{ℕ, _≤_, _<_}
 use mathlib.Core.Path.{_≡_, refl, sym, ap, _∙_}
 use mathlib.Core.Bool.{Bool, true, false, _||_}
 use native.Mathlib.Omega.{arith}
@@ -8,6 +8,7 @@ use lib.Bits.{bitOr}
 use Rattle.image.specs.Stalls.{some}
 use Rattle.image.specs.Layout.{labelLimit}
 use Rattle.image.specs.Encode.{Table}
+use Rattle.image.proofs.Search.{some-or}
 use Rattle.merge.specs.Label.{rowHas, lowestFrom, labelUsed, pairNames, newLabel}
 use Rattle.merge.specs.LabelSet.{labelSet, hasLabel}
 use Rattle.merge.proofs.label.LabelSets.{has-label, set-or}
@@ -15,7 +16,8 @@ use Rattle.merge.proofs.label.Lowest.{lowest-to, lowest-below, lowest-s
 use Rattle.merge.proofs.label.Counting.{not-all-used}
 
 module _ (n p : ℕ) (a : Table) (q : ℕ) (b : Table) where
-  newLabel-most : newLabel n p a q b ≤ pairNames n
+  -- however the tables are made
+  pub newLabel-most : newLabel n p a q b ≤ pairNames n
   unfolding newLabel
   newLabel-most = omega (arith, lowest-to (pairNames n) 0 (labelUsed n p a q b))
 
@@ -54,17 +56,6 @@ module _ (n p : ℕ) (a : Table) (q : ℕ) (b : Table) where
       ]
 
 -- the labels of both tables
-shuffle : (a b c d : Bool) → ((a || b) || (c || d)) ≡ ((a || c) || (b || d))
-shuffle true b c d = refl
-shuffle false true true d = refl
-shuffle false true false d = refl
-shuffle false false c d = refl
-
-some-or : (n : ℕ) (f g : ℕ → Bool) → (some n f || some n g) ≡ some n (λ r. f r || g r)
-unfolding some
-some-or zero f g = refl
-some-or (suc n) f g = shuffle (f (suc n)) (some n f) (g (suc n)) (some n g) ∙ ap (λ b. (f (suc n) || g (suc n)) || b) (some-or n f g)
-
 pub label-chosen : (n p : ℕ) (a : Table) (q : ℕ) (b : Table) → pairNames n ≤ 64
     → lowestFrom 64 0 (hasLabel (bitOr (labelSet (λ k. some n (rowHas p q a k))) (labelSet (λ k. some n (rowHas p q b k))))) ≡ newLabel n p a q b
 unfolding labelUsed

@@ -18,7 +18,6 @@ use Rattle.image.specs.declared.Name.the-variants.{Never, With}
 use Rattle.image.proofs.Tables.{none-at}
 use Rattle.image.proofs.Passing.{and-holds, some-holds, some-fails}
 use Rattle.image.proofs.Accepted.{Accepted, checked-accepted}
-use Rattle.image.proofs.AcceptedMade.{accepted-made}
 use Rattle.image.proofs.MadeAccepted.{read-name, read-mark, made-accepted}
 use Rattle.merge.specs.Known.{sameMeeting, common, known}
 use Rattle.merge.specs.Verdict.{sameName, judge, verdict, undecided}
@@ -26,7 +25,8 @@ use Rattle.merge.specs.Merged.{met, firstHas, secondHas, supplier, suppl
 use Rattle.merge.specs.Call.{refusedMeeting, acceptedMeeting, metTogether, metGood, metChecked, meetingCall}
 use Rattle.merge.proofs.known.Agreeing.{verdict-agree}
 use Rattle.merge.proofs.pairs.PairRows.{each-agree}
-use Rattle.merge.proofs.label.NewLabel.{newLabel-limit}
+use Rattle.merge.proofs.label.NewLabel.{newLabel-most, newLabel-limit}
+use Rattle.merge.proofs.Heads.{Heads, accepted-heads}
 use Rattle.merge.proofs.Latests.{pick, pick-neither, never-with, not-never, newName, latest-met, latest-other}
 
 -- Cases
@@ -65,15 +65,9 @@ between true true false h k y e = absurd (false≢true e)
 between true false x h k y e = inr (all-three h k y e)
 between false g x h k y e = inr (all-three h k y e)
 
--- two heads at different stalls whose images belong together
+-- two heads whose tables belong together
 pub record Meets (n p : ℕ) (a : Table) (q : ℕ) (b : Table) : Type 0 where
-  pub p-from : 1 ≤ p
-  pub p-to : p ≤ n
-  pub q-from : 1 ≤ q
-  pub q-to : q ≤ n
-  pub differ : p ≡ q → ⊥
-  pub first : Made n p a
-  pub second : Made n q b
+  pub heads : Heads n p a q b
   pub decided : undecided n p a q b ≡ false
 
 -- Who was met, and who not
@@ -124,15 +118,15 @@ module _ {n p : ℕ} {a : Table} {q : ℕ} {b : Table} (w : Meets n p a q b) whe
   supplied r = go (firstHas n p a q b r)
     where
       go : (t : Bool) → Made n (cond t p q) (cond t a b)
-      go true = w .first
-      go false = w .second
+      go true = w .heads .first
+      go false = w .heads .second
 
   latest-in : (c : ℕ) → 1 ≤ c → c ≤ n → NameIn n c (latestName n p a q b c)
   unfolding latestName
   latest-in c k l =
       pick (NameIn n c) (eqb c p) (eqb c q) (newName n p a q b q) (newName n p a q b p) (supplier n p a q b c .names (supplierStall n p a q b c) c)
-      (λ e. (w .q-from, w .q-to, λ z. w .differ (sym (z ∙ eqb-true c p e)), newLabel-limit n p a q b))
-      (λ e. (w .p-from, w .p-to, λ z. w .differ (z ∙ eqb-true c q e), newLabel-limit n p a q b))
+      (λ e. (w .heads .q-from, w .heads .q-to, λ z. w .heads .differ (sym (z ∙ eqb-true c p e)), newLabel-limit n p a q b))
+      (λ e. (w .heads .p-from, w .heads .p-to, λ z. w .heads .differ (z ∙ eqb-true c q e), newLabel-limit n p a q b))
       (λ e. subst (NameIn n c) (supplied c .diagonal c k l) (supplied c .names-in c c k l k l))
 
   names-in : (r c : ℕ) → 1 ≤ r → r ≤ n → 1 ≤ c → c ≤ n → NameIn n c (mergedNames n p a q b r c)
@@ -146,8 +140,8 @@ module _ {n p : ℕ} {a : Table} {q : ℕ} {b : Table} (w : Meets n p a q b) whe
   unfolding mergedYields
   yields-in r i j =
       pick (λ y. isYield y ≡ true) (eqb r p) (eqb r q) (a .current) (b .current) (supplier n p a q b r .yields r)
-      (λ e. w .first .current-in)
-      (λ e. w .second .current-in)
+      (λ e. w .heads .first .current-in)
+      (λ e. w .heads .second .current-in)
       (λ e. supplied r .yields-in r i j)
 
   diagonal : (r : ℕ) → 1 ≤ r → r ≤ n → mergedNames n p a q b r r ≡ latestName n p a q b r
@@ -182,10 +176,10 @@ module _ {n p : ℕ} {a : Table} {q : ℕ} {b : Table} (w : Meets n p a q b) whe
           let v = not-true (met n p a q b r) o in
           elim (between (firstHas n p a q b r) (firstHas n p a q b s) (a .order r s) (secondHas n p a q b r) (secondHas n p a q b s) (b .order r s) m) [
             | inl (f, g, x) ↦
-                let h = w .first .marks-heard r s i j k l x in
+                let h = w .heads .first .marks-heard r s i j k l x in
                 (λ z. h .0 (sym (latest-other n p a q b r v ∙ supplied-by n p a q b r true f) ∙ z), λ z. h .1 (sym (latest-other n p a q b s e ∙ supplied-by n p a q b s true g) ∙ z))
             | inr (f, g, x) ↦
-                let h = w .second .marks-heard r s i j k l x in
+                let h = w .heads .second .marks-heard r s i j k l x in
                 (λ z. h .0 (second-never r i j v f z), λ z. h .1 (second-never s k l e g z))
           ]
 
@@ -285,17 +279,7 @@ module _ (s u : List ℕ) (n p q : ℕ) where
 
 pub meets : {s u : List ℕ} {n p q : ℕ} → Accepted s n p → Accepted u n q → (p ≡ q → ⊥) → undecided n p (tableOf s n) q (tableOf u n) ≡ false
     → Meets n p (tableOf s n) q (tableOf u n)
-meets w v differ decided =
-    record {
-      p-from = w .frame .own-from;
-      p-to = w .frame .own-to;
-      q-from = v .frame .own-from;
-      q-to = v .frame .own-to;
-      differ = differ;
-      first = accepted-made w;
-      second = accepted-made v;
-      decided = decided;
-    }
+meets w v differ decided = record { heads = accepted-heads w v differ; decided = decided }
 
 pub meeting-accepted : {s u : List ℕ} {n p q : ℕ} → Accepted s n p → Accepted u n q → (p ≡ q → ⊥) → undecided n p (tableOf s n) q (tableOf u n) ≡ false
     → Accepted (firstAfter s u n p q) n p
@@ -304,8 +288,8 @@ meeting-accepted {s} {u} {n} {p} {q} w v differ decided =
     let a = tableOf s n in
     let b = tableOf u n in
     let m = meets w v differ decided in (
-      made-accepted n p (merged n p a q b (a .current)) (w .frame .n-from) (w .frame .n-to) (m .p-from) (m .p-to) (merged-made m p (a .current) (met-first n p a q b) (m .first .current-in)),
-      made-accepted n q (merged n p a q b (b .current)) (w .frame .n-from) (w .frame .n-to) (m .q-from) (m .q-to) (merged-made m q (b .current) (met-second n p a q b) (m .second .current-in)),
+      made-accepted n p (merged n p a q b (a .current)) (w .frame .n-from) (w .frame .n-to) (m .heads .p-from) (m .heads .p-to) (merged-made m p (a .current) (met-first n p a q b) (m .heads .first .current-in)),
+      made-accepted n q (merged n p a q b (b .current)) (w .frame .n-from) (w .frame .n-to) (m .heads .q-from) (m .heads .q-to) (merged-made m q (b .current) (met-second n p a q b) (m .heads .second .current-in)),
     )
 
 -- and so it is for their images
@@ -318,10 +302,10 @@ again-zero-images {n} {p} {a} {q} {b} w from to c d e f r i j =
     let x = merged-made w p c (met-first n p a q b) e in
     let y = merged-made w q d (met-second n p a q b) f in
     verdict-agree n p (tableOf (encode n p first) n) first q (tableOf (encode n q second) n) second r i j
-    (λ s. read-name n p first from to (w .p-from) (w .p-to) x p s (w .p-from) (w .p-to))
-    (λ s. read-name n q second from to (w .q-from) (w .q-to) y q s (w .q-from) (w .q-to))
-    (λ s. read-mark n p first from to (w .p-from) (w .p-to) x r s i j)
-    (λ s. read-mark n q second from to (w .q-from) (w .q-to) y r s i j)
+    (λ s. read-name n p first from to (w .heads .p-from) (w .heads .p-to) x p s (w .heads .p-from) (w .heads .p-to))
+    (λ s. read-name n q second from to (w .heads .q-from) (w .heads .q-to) y q s (w .heads .q-from) (w .heads .q-to))
+    (λ s. read-mark n p first from to (w .heads .p-from) (w .heads .p-to) x r s i j)
+    (λ s. read-mark n q second from to (w .heads .q-from) (w .heads .q-to) y r s i j)
     ∙ again-zero w c d r i j
 
 -- the same for two accepted images, and so they belong together still
@@ -330,7 +314,7 @@ module _ {s u : List ℕ} {n p q : ℕ} (w : Accepted s n p) (v : Accepted u n q
       → verdict n p (tableOf (firstAfter s u n p q) n) q (tableOf (secondAfter s u n p q) n) r ≡ 0
   meeting-zero decided r i j =
       let m = meets w v differ decided in
-      again-zero-images m (w .frame .n-from) (w .frame .n-to) (tableOf s n .current) (tableOf u n .current) (m .first .current-in) (m .second .current-in) r i j
+      again-zero-images m (w .frame .n-from) (w .frame .n-to) (tableOf s n .current) (tableOf u n .current) (m .heads .first .current-in) (m .heads .second .current-in) r i j
 
   pub meeting-decided : undecided n p (tableOf s n) q (tableOf u n) ≡ false
       → undecided n p (tableOf (firstAfter s u n p q) n) q (tableOf (secondAfter s u n p q) n) ≡ false
@@ -364,4 +348,4 @@ module _ {s u : List ℕ} {n p q : ℕ} (w : Accepted s n p) (v : Accepted u n q
     where
       go : (t : Bool) → (cond t (refusedMeeting s u buffer 9) (acceptedMeeting s u buffer n p q) .answer ≡ 256 + 9) ↔ (t ≡ true)
       go true = (λ e. refl, λ e. refl)
-      go false = (λ e. absurd (omega (arith, newLabel-limit n p (tableOf s n) q (tableOf u n), w .frame .n-to)), λ e. absurd (false≢true e))
+      go false = (λ e. absurd (omega (arith, newLabel-most n p (tableOf s n) q (tableOf u n), w .frame .n-to)), λ e. absurd (false≢true e))
