@@ -68,6 +68,30 @@ impl Counts {
     }
 }
 
+/// How often labels came up, by N and label.
+#[derive(Default)]
+pub struct Labels(BTreeMap<(usize, usize), u64>);
+
+impl Labels {
+    pub fn add(&mut self, n: usize, label: usize) {
+        *self.0.entry((n, label)).or_default() += 1;
+    }
+
+    pub fn of(&self, n: usize, label: usize) -> u64 {
+        self.0.get(&(n, label)).copied().unwrap_or(0)
+    }
+
+    /// Ends the run if one of these labels never came up.
+    pub fn require(&self, n: usize, labels: impl IntoIterator<Item = usize>) {
+        for label in labels {
+            if self.of(n, label) == 0 {
+                println!("{n} heads: label {label} never came up");
+                exit(1);
+            }
+        }
+    }
+}
+
 /// What calls on a table with another yield in this place (0: the current one, r: that of stall r)
 /// are counted as.
 pub fn yields_at(table: &Table, place: usize) -> &'static str {

@@ -1,5 +1,5 @@
-/* The examples of document 01 with request 2026-01, on the functions of wilbryn.h. Every run is
-   lent in a heap block of exactly its length. The first difference ends the run. */
+/* The examples of document 01 with requests 2026-01 and 2026-02, on the functions of wilbryn.h.
+   Every run is lent in a heap block of exactly its length. The first difference ends the run. */
 #include "wilbryn.h"
 
 #include <stdio.h>
@@ -141,8 +141,8 @@ static struct run part(struct run run, size_t from, size_t to) {
     return (struct run){run.bytes + from, to - from};
 }
 
-/* wanted_verdicts: what the buffer holds afterwards. A refused meeting changes no image; an accepted
-   one leaves N, stall and current yield, and the rest the same in both. */
+/* wanted_verdicts: what the buffer holds afterwards. A refused meeting changes no image; an
+   accepted one leaves N, stall and current yield, and the rest the same in both. */
 static void meeting(uint32_t wanted, struct run first, struct run second,
                     struct run wanted_verdicts) {
     struct run verdicts = lend(wanted_verdicts.len);
@@ -218,8 +218,8 @@ static const struct {
     {"heard without (r, r)", "0201 0000 02000100 02000100 00000000 0301", 6},
     {"heard without (r, own)", "0201 0000 02000100 02000100 00000000 0302", 6},
     {"heard with the least marks", "0201 0000 02000100 02000100 00000000 0103", 0},
-    {"N = 3, label 12", "0301 0000 020c010c0000 020c010c0000 000000000000 00000000ffff 030300", 0},
-    {"N = 3, label 13", "0301 0000 020d010d0000 020d010d0000 000000000000 00000000ffff 030300", 5},
+    {"N = 3, label 10", "0301 0000 020a010a0000 020a010a0000 000000000000 00000000ffff 030300", 0},
+    {"N = 3, label 11", "0301 0000 020b010b0000 020b010b0000 000000000000 00000000ffff 030300", 5},
 };
 
 enum { IMAGES = sizeof images / sizeof images[0] };
@@ -440,25 +440,151 @@ static void try_yields_at(struct run image, size_t at, int is_heard) {
     give_back(changed);
 }
 
-/* In each place of the image of head 1, which has met one other. */
-static void try_yields_after(uint8_t n, uint8_t other) {
-    struct parlour parlour = open(n);
-    struct run image = parlour.images[1], verdicts = lend(n);
-    memset(verdicts.bytes, 0, n);
-    meeting(0, image, parlour.images[other], verdicts);
+static void try_yields(struct run image, uint8_t n, uint8_t other) {
+    doing = "a yield in each place";
     try_yields_at(image, 2, 1);
     for (uint8_t r = 1; r <= n; r++) {
         try_yields_at(image, 2 + 2 * n * n + 2 * r, r == 1 || r == other);
     }
+}
+
+/* The highest label, by N. */
+static const uint8_t label_limits[] = {[2] = 6, 10, 14, 18, 22, 26, 30};
+
+_Static_assert(WILBRYN_LABEL_LIMIT(2) == 6 && WILBRYN_LABEL_LIMIT(8) == 30, "the limit of labels");
+
+static size_t name_at(uint8_t n, uint8_t row, uint8_t column) {
+    return 4u + 2u * n * (row - 1u) + 2u * (column - 1u);
+}
+
+/* In two names that must agree, or in one given twice. */
+static void try_labels_at(struct run image, uint8_t n, size_t at, size_t also) {
+    struct run changed = copy(image);
+    for (unsigned label = 0; label <= 255; label++) {
+        changed.bytes[at + 1] = changed.bytes[also + 1] = (uint8_t)label;
+        check(label <= label_limits[n] ? 0 : 5, changed);
+    }
+    give_back(changed);
+}
+
+/* Only rows 1 and other have names. In column other they must agree. */
+static void try_labels(struct run image, uint8_t n, uint8_t other) {
+    doing = "a label in each place";
+    try_labels_at(image, n, name_at(n, 1, 1), name_at(n, 1, 1));
+    try_labels_at(image, n, name_at(n, other, 1), name_at(n, other, 1));
+    try_labels_at(image, n, name_at(n, 1, other), name_at(n, other, other));
+}
+
+/* In the image of head 1, which has met one other. */
+static void try_places_after(uint8_t n, uint8_t other) {
+    doing = "a first meeting";
+    struct parlour parlour = open(n);
+    struct run image = parlour.images[1], verdicts = lend(n);
+    memset(verdicts.bytes, 0, n);
+    meeting(0, image, parlour.images[other], verdicts);
+    try_yields(image, n, other);
+    try_labels(image, n, other);
     give_back(verdicts);
     shut(parlour);
 }
 
-static void try_yields(void) {
-    doing = "a yield in each place";
+static void try_places(void) {
     for (uint8_t n = 2; n <= 8; n++) {
-        for (uint8_t other = 2; other <= n; other++) try_yields_after(n, other);
+        for (uint8_t other = 2; other <= n; other++) try_places_after(n, other);
     }
+}
+
+static void put_name(struct run image, uint8_t row, uint8_t column, uint8_t partner,
+                     uint8_t label) {
+    uint8_t *name = image.bytes + name_at(image.bytes[0], row, column);
+    name[0] = partner;
+    name[1] = label;
+}
+
+static void add_marks(struct run image, uint8_t r, unsigned marks) {
+    image.bytes[image.len - image.bytes[0] + r - 1u] |= (uint8_t)marks;
+}
+
+/* The image of head 1 or 2 with the most names of this pair, their labels counting up from the one
+   given: two new ones in each row, but in the partner's row the own row's name of the partner. In
+   the other columns all rows agree; their names have the highest label, which is not used for the
+   pair. The marks are those that check 6 demands. */
+static struct run crowded(uint8_t n, uint8_t stall, uint8_t label) {
+    uint8_t partner = 3 - stall;
+    struct run image = lend(WILBRYN_IMAGE_LENGTH(n));
+    fresh(0, image, n, stall);
+    for (uint8_t row = 1; row <= n; row++) {
+        put_name(image, row, stall, partner, label++);
+        if (row != partner) put_name(image, row, partner, stall, label++);
+        for (uint8_t r = 3; r <= n; r++) put_name(image, row, r, 1, label_limits[n]);
+        add_marks(image, row, 1u << (row - 1) | 1u << (stall - 1));
+    }
+    memcpy(image.bytes + name_at(n, partner, partner), image.bytes + name_at(n, stall, partner), 2);
+    check(0, image);
+    return image;
+}
+
+/* Copies of the images of heads 1 and 2 meet, either first. On the other stalls all rows of the
+   first must agree, and the verdict must be 0, which leaves its rows and marks. All yields must be
+   not milked. */
+static void meet_copies(uint8_t label, struct run one, struct run other, struct run verdicts) {
+    struct run first = copy(one), second = copy(other), after = copy(one);
+    uint8_t n = one.bytes[0];
+    memset(after.bytes + after.len - n, 0, 2);
+    for (uint8_t r = 1; r <= n; r++) add_marks(after, r, 3);
+    for (uint8_t row = 1; row <= 2; row++) {
+        put_name(after, row, 1, 2, label);
+        put_name(after, row, 2, 1, label);
+    }
+    meeting(label, first, second, verdicts);
+    expect_bytes("the first", after, first);
+    check(0, first);
+    check(0, second);
+    struct run all[] = {first, second, after};
+    for (int i = 0; i < 3; i++) give_back(all[i]);
+}
+
+/* The pair 1, 2 has 4 * N - 2 different names, so the own rows have in common just the names from
+   column 3 on. At first neither head has a mark from 1 to these: 9. Then head 1 gets the mark
+   (r, N) for each r. With N = 2 there is still nothing in common: 9. With more, head 2 now knows
+   all latests of head 1. Head 1 does not know those of head 2 for 1 and 2, which have marks to 1
+   and 2 alone: there head 2 is newer. From 3 on both know the same name, by its own mark: 0. */
+static void try_crowded(uint8_t n) {
+    doing = "a pair with the most names";
+    struct run one = crowded(n, 1, 0), two = crowded(n, 2, 2 * n - 1), verdicts = lend(n);
+    meeting_refused(9, one, two, n);
+    for (uint8_t r = 1; r <= n; r++) add_marks(one, r, 1u << (n - 1));
+    if (n == 2) {
+        meeting_refused(9, one, two, n);
+        meeting_refused(9, two, one, n);
+    } else {
+        memset(verdicts.bytes, 0, n);
+        memset(verdicts.bytes, 2, 2);
+        meet_copies(label_limits[n], one, two, verdicts);
+        memset(verdicts.bytes, 1, 2);
+        meet_copies(label_limits[n], two, one, verdicts);
+    }
+    struct run all[] = {one, two, verdicts};
+    for (int i = 0; i < 3; i++) give_back(all[i]);
+}
+
+/* With N = 2 and a name in common the pair has at most 5. Here that is column 1 of the own rows:
+   both know it, 0. Head 1 has the mark (2, 1), which check 6 demands of it, so head 2 knows its
+   latest of 2. Head 2 lacks that mark, so head 1 does not know its: there head 2 is newer. */
+static void try_crowded_two(void) {
+    doing = "2 heads with the most names";
+    struct run one = from_hex("0201 ffff 02000101 02020101 ffffffff 0103");
+    struct run two = from_hex("0202 ffff 02000104 02000103 ffffffff 0302");
+    struct run verdicts = from_hex("0002"), turned = from_hex("0001");
+    meet_copies(5, one, two, verdicts);
+    meet_copies(5, two, one, turned);
+    struct run all[] = {one, two, verdicts, turned};
+    for (int i = 0; i < 4; i++) give_back(all[i]);
+}
+
+static void try_most_names(void) {
+    for (uint8_t n = 2; n <= 8; n++) try_crowded(n);
+    try_crowded_two();
 }
 
 static void try_images_in_meetings(void) {
@@ -516,9 +642,10 @@ int main(void) {
     try_listing();
     try_not_milked();
     try_not_milked_after();
-    try_yields();
+    try_places();
     try_images_in_meetings();
     try_pairs();
+    try_most_names();
     printf("check.c: as document 01 says:");
     for (int call = 0; call < CALLS; call++) printf(" %s %u", names[call], counts[call]);
     printf("\n");

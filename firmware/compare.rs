@@ -6,9 +6,9 @@ mod images;
 #[allow(dead_code)]
 mod model;
 
-use calls::{share_of, Counts};
-use images::{Random, EDGES};
-use model::{Name, Table};
+use calls::{share_of, Counts, Labels};
+use images::{edge_labels, Random, EDGES};
+use model::{label_limit, Name, Table};
 
 const SEED: u64 = 0x5eed_0001;
 
@@ -75,13 +75,18 @@ fn check_yield(counts: &mut Counts, table: &Table, place: usize, new: u16) -> Ve
     image
 }
 
+/// A heard list of an image, and a milking with a yield at an edge.
+fn list_and_milk(random: &mut Random, counts: &mut Counts, image: &mut [u8]) {
+    calls::heard(counts, image, &random.bytes(3 * image[0] as usize));
+    calls::milking(counts, image, random.pick(&EDGES));
+}
+
 /// Each yield at an edge in each place of a table.
 fn edges_of(random: &mut Random, counts: &mut Counts, table: &Table) {
     for place in 0..=table.n {
         for new in EDGES {
             let mut image = check_yield(counts, table, place, new);
-            calls::heard(counts, &image, &random.bytes(3 * table.n));
-            calls::milking(counts, &mut image, random.pick(&EDGES));
+            list_and_milk(random, counts, &mut image);
         }
     }
 }
@@ -95,6 +100,76 @@ fn edges(random: &mut Random, counts: &mut Counts, rounds: usize) {
             edges_of(random, counts, &Table::fresh(n, stall));
             edges_of(random, counts, &other);
         }
+    }
+}
+
+/// The labels of images that are good but for the label: of those taken, of those refused with 5.
+#[derive(Default)]
+struct Tried {
+    taken: Labels,
+    refused: Labels,
+}
+
+/// Where the name of row s, column r must stand too: a latest stands in the own row and in the row
+/// of its stall.
+fn twin(table: &Table, s: usize, r: usize) -> (usize, usize) {
+    if s == table.stall {
+        (r, r)
+    } else if s == r {
+        (table.stall, r)
+    } else {
+        (s, r)
+    }
+}
+
+/// The calls on a table with this label in row s, column r: there alone, then in its twin too,
+/// which leaves no other fault.
+fn try_label(
+    random: &mut Random,
+    counts: &mut Counts,
+    tried: &mut Tried,
+    mut table: Table,
+    (s, r, label): (usize, usize, u8),
+) {
+    let [_, number] = [(s, r), twin(&table, s, r)].map(|(s, r)| {
+        table.rows[s][r].label = label;
+        let mut image = table.to_bytes();
+        let number = calls::check(counts, &image);
+        list_and_milk(random, counts, &mut image);
+        number
+    });
+    match number {
+        0 => tried.taken.add(table.n, label as usize),
+        5 => tried.refused.add(table.n, label as usize),
+        _ => (),
+    }
+}
+
+/// Images of every size with a name in every place, so often, with each label at an edge in each.
+fn labels(random: &mut Random, counts: &mut Counts, rounds: usize) -> Tried {
+    let mut tried = Tried::default();
+    for n in (2..=8).flat_map(|n| vec![n; rounds]) {
+        let stall = random.stall(n);
+        let table = images::full(random, n, stall);
+        for (s, r) in (1..=n).flat_map(|s| (1..=n).map(move |r| (s, r))) {
+            for label in edge_labels(n) {
+                try_label(random, counts, &mut tried, table.clone(), (s, r, label));
+            }
+        }
+    }
+    tried
+}
+
+/// Of each size the labels up to the limit were taken, and the one above was refused.
+fn require_labels(tried: &Tried) {
+    for n in 2..=8 {
+        let limit = label_limit(n);
+        let [below, at, above] = [limit - 1, limit, limit + 1];
+        print!("  {n} heads: label {below} taken {} times, ", tried.taken.of(n, below));
+        print!("{at} taken {} times, ", tried.taken.of(n, at));
+        println!("{above} refused {} times", tried.refused.of(n, above));
+        tried.taken.require(n, [below, at]);
+        tried.refused.require(n, [above]);
     }
 }
 
@@ -126,6 +201,7 @@ fn main() {
         fresh(&mut random, &mut counts);
     }
     edges(&mut random, &mut counts, share_of(50).max(1));
+    let tried = labels(&mut random, &mut counts, share_of(50).max(1));
     all_yields(&mut counts);
     counts.print();
     counts.require("fresh", 0..=3);
@@ -133,4 +209,5 @@ fn main() {
     counts.require("milking", 0..=6);
     counts.require("heard", (0..=6).chain([8]));
     counts.require_yields();
+    require_labels(&tried);
 }

@@ -1,6 +1,8 @@
-//! Random images: accepted ones that come from no list, related pairs of them, and damaged ones.
+//! Random images: accepted ones that come from no list, related pairs of them, and damaged ones;
+//! and every accepted image of 2 heads.
 
-use crate::model::{label_limit, length, Name, Table, NONE, NOT_MILKED};
+use crate::model::{check, label_limit, length, Name, Table, NONE, NOT_MILKED};
+use std::iter::once;
 
 /// Yields on both sides of each limit, and those that a reader of one byte, of a signed number or of
 /// the low byte first takes for others.
@@ -8,6 +10,12 @@ pub const EDGES: [u16; 18] = [
     0, 1, 255, 256, 998, 999, 1000, 1001, 0x03ff, 0x0400, 0x0fe7, 0x7fff, 0x8000, 0xe703, 0xfe00,
     0xff00, 0xfffe, 0xffff,
 ];
+
+/// Labels on both sides of the limit and of 4 * N, which is one for each place of a name.
+pub fn edge_labels(n: usize) -> [u8; 8] {
+    let limit = label_limit(n) as u8;
+    [0, 1, limit - 1, limit, limit + 1, limit + 2, limit + 3, 255]
+}
 
 /// Splitmix64.
 pub struct Random(pub u64);
@@ -31,6 +39,12 @@ impl Random {
 
     pub fn pick<T: Copy>(&mut self, from: &[T]) -> T {
         from[self.below(from.len())]
+    }
+
+    fn shuffle<T>(&mut self, list: &mut [T]) {
+        for at in 1..list.len() {
+            list.swap(at, self.below(at + 1));
+        }
     }
 
     pub fn byte(&mut self) -> u8 {
@@ -100,6 +114,11 @@ fn style(random: &mut Random, n: usize) -> Style {
     }
 }
 
+/// Every stall heard, and a name in every place.
+fn full_style(random: &mut Random, n: usize) -> Style {
+    Style { labels: label_limit(n) + 1, heard: 100, named: 100, ..style(random, n) }
+}
+
 fn name(random: &mut Random, n: usize, column: usize, labels: usize) -> Name {
     let partner = random.other_stall(n, column) as u8;
     Name { partner, label: random.below(labels) as u8 }
@@ -111,10 +130,8 @@ fn fill(random: &mut Random, table: &mut Table, style: &Style) {
     table.rows = [[NONE; 9]; 9];
     table.rows[table.stall] = own;
     table.order = [0; 9];
-    table.yields = [NOT_MILKED; 9];
-    table.current = random.image_yield();
+    draw_yields(random, table);
     for s in (1..=n).filter(|&s| own[s] != NONE) {
-        table.yields[s] = random.image_yield();
         for r in (1..=n).filter(|_| s != table.stall) {
             let draw = random.percent(style.named);
             table.rows[s][r] = if draw { name(random, n, r, style.labels) } else { NONE };
@@ -128,18 +145,40 @@ fn fill(random: &mut Random, table: &mut Table, style: &Style) {
     }
 }
 
-/// An accepted image that comes from no list.
-pub fn accepted(random: &mut Random, n: usize, stall: usize) -> Table {
-    let style = style(random, n);
+/// The current yield, and that of each stall that is heard.
+fn draw_yields(random: &mut Random, table: &mut Table) {
+    table.current = random.image_yield();
+    for r in table.stalls() {
+        table.yields[r] = if table.heard(r) { random.image_yield() } else { NOT_MILKED };
+    }
+}
+
+/// A table that has an own row and nothing else yet.
+fn with_own_row(random: &mut Random, n: usize, stall: usize, style: &Style) -> Table {
     let mut table = Table::fresh(n, stall);
     for r in table.stalls() {
         if r == stall || random.percent(style.heard) {
             table.rows[stall][r] = name(random, n, r, style.labels);
         }
     }
+    table
+}
+
+/// An accepted image that comes from no list.
+pub fn accepted(random: &mut Random, n: usize, stall: usize) -> Table {
+    let style = style(random, n);
+    let mut table = with_own_row(random, n, stall, &style);
     if random.percent(5) {
         table.rows[stall] = [NONE; 9];
     }
+    fill(random, &mut table, &style);
+    table
+}
+
+/// An accepted image from no list that has a name in every place.
+pub fn full(random: &mut Random, n: usize, stall: usize) -> Table {
+    let style = full_style(random, n);
+    let mut table = with_own_row(random, n, stall, &style);
     fill(random, &mut table, &style);
     table
 }
@@ -153,14 +192,7 @@ pub fn related(random: &mut Random) -> (Table, Table) {
     let style = style(random, n);
     let mut first = accepted(random, n, a);
     let mut second = accepted(random, n, b);
-    let shared = random.pick(&[20, 50, 80]);
-    for r in 1..=n {
-        if first.heard(r) && second.heard(r) && random.percent(shared) {
-            share(random, &mut first, &mut second, r);
-        }
-    }
-    fill(random, &mut first, &style);
-    fill(random, &mut second, &style);
+    relate(random, &mut first, &mut second, &style);
     if random.percent(30) {
         let next = crowd(random, &mut first, b, 0);
         crowd(random, &mut second, a, next);
@@ -169,6 +201,41 @@ pub fn related(random: &mut Random) -> (Table, Table) {
         settle(random, &mut first, &mut second);
     }
     (first, second)
+}
+
+/// Two accepted images from no list whose pair has as many different names as there can be: one
+/// with each label up to the limit but `lowest`. In some a part of the higher labels is missing.
+pub fn used_up(random: &mut Random, n: usize, lowest: u8) -> (Table, Table) {
+    let a = random.stall(n);
+    let b = random.other_stall(n, a);
+    let style = full_style(random, n);
+    let mut first = with_own_row(random, n, a, &style);
+    let mut second = with_own_row(random, n, b, &style);
+    relate(random, &mut first, &mut second, &style);
+    let all = 0..=label_limit(n) as u8;
+    let mut labels: Vec<u8> = all.filter(|&label| label != lowest).collect();
+    random.shuffle(&mut labels);
+    let (of_first, of_second) = labels.split_at(2 * n - 1);
+    for (table, other, labels) in [(&mut first, b, of_first), (&mut second, a, of_second)] {
+        name_pair(table, other, labels);
+        thin_out(random, table, other, lowest);
+        // The latest of the partner stands in its row too.
+        table.rows[other][other] = table.own_row()[other];
+    }
+    settle(random, &mut first, &mut second);
+    (first, second)
+}
+
+/// Gives the own rows of two images names in common, and fills the rest of both.
+fn relate(random: &mut Random, first: &mut Table, second: &mut Table, style: &Style) {
+    let shared = random.pick(&[20, 50, 80]);
+    for r in first.stalls() {
+        if first.heard(r) && second.heard(r) && random.percent(shared) {
+            share(random, first, second, r);
+        }
+    }
+    fill(random, first, style);
+    fill(random, second, style);
 }
 
 /// Gives the second the name that the first has in column r: there, or in the partner's column.
@@ -183,19 +250,48 @@ fn share(random: &mut Random, first: &mut Table, second: &mut Table, r: usize) {
     }
 }
 
+/// Where an image can name the pair of its stall and `other`: row, column and partner. Row `other`,
+/// column `other` is left out, for it has the name that the own row has in that column.
+fn pair_places(table: &Table, other: usize) -> Vec<(usize, usize, u8)> {
+    let own = table.stall;
+    let heard = table.stalls().filter(|&s| table.heard(s));
+    heard
+        .flat_map(|s| [(s, own, other as u8), (s, other, own as u8)])
+        .filter(|&(s, column, _)| (s, column) != (other, other))
+        .collect()
+}
+
 /// Gives the pair of an image's stall and `other` names with labels from `label` on in the rows
 /// other than the own; answers the label after the last.
 fn crowd(random: &mut Random, table: &mut Table, other: usize, mut label: u8) -> u8 {
-    let (n, own, latests) = (table.n, table.stall, *table.own_row());
-    for s in (1..=n).filter(|&s| s != own && latests[s] != NONE) {
-        for (column, partner) in [(own, other), (other, own)] {
-            if column != s && random.percent(95) {
-                table.rows[s][column] = Name { partner: partner as u8, label };
-                label += 1;
-            }
+    for (s, column, partner) in pair_places(table, other) {
+        if s != table.stall && random.percent(95) {
+            table.rows[s][column] = Name { partner, label };
+            label += 1;
         }
     }
     label
+}
+
+/// Names the pair of an image's stall and `other` in each place, with one of these labels each.
+fn name_pair(table: &mut Table, other: usize, labels: &[u8]) {
+    let places = pair_places(table, other);
+    assert_eq!(places.len(), labels.len());
+    for ((s, column, partner), &label) in places.into_iter().zip(labels) {
+        table.rows[s][column] = Name { partner, label };
+    }
+}
+
+/// Puts any names in place of some of the pair's with labels above `lowest`, which stays free.
+fn thin_out(random: &mut Random, table: &mut Table, other: usize, lowest: u8) {
+    let chance = random.pick(&[0, 20, 60]);
+    for (s, column, partner) in pair_places(table, other) {
+        let any = name(random, table.n, column, label_limit(table.n) + 1);
+        let stays_free = any != Name { partner, label: lowest };
+        if table.rows[s][column].label > lowest && stays_free && random.percent(chance) {
+            table.rows[s][column] = any;
+        }
+    }
 }
 
 /// Chooses marks so that of two different latests of a stall just one is known, where that can be.
@@ -239,6 +335,42 @@ fn know(random: &mut Random, table: &mut Table, r: usize, common: &[usize], know
     for &s in common.iter().filter(|&&s| s != r && s != table.stall) {
         table.order[r] &= !(1 << (s - 1));
     }
+}
+
+/// Every accepted image of one of 2 heads, but for the yields, which are drawn.
+pub fn all_of_two(random: &mut Random, stall: usize) -> Vec<Table> {
+    let other = 3 - stall;
+    let mut all = vec![Table::fresh(2, stall)];
+    for (s, r) in [(stall, stall), (stall, other), (other, stall)] {
+        let named = (0..=label_limit(2) as u8).map(|label| Name { partner: 3 - r as u8, label });
+        all = with_each(&all, once(NONE).chain(named), |table, name| table.rows[s][r] = name);
+    }
+    for r in [1, 2] {
+        all = with_each(&all, 0..4, |table, marks| table.order[r] = marks);
+    }
+    for table in &mut all {
+        table.rows[other][other] = table.own_row()[other];
+        draw_yields(random, table);
+    }
+    all.retain(|table| check(&table.to_bytes()) == 0);
+    all
+}
+
+/// Each of the tables with each of the choices put in.
+fn with_each<T: Copy>(
+    tables: &[Table],
+    choices: impl Iterator<Item = T>,
+    put: impl Fn(&mut Table, T),
+) -> Vec<Table> {
+    let mut all = Vec::new();
+    for choice in choices {
+        for table in tables {
+            let mut table = table.clone();
+            put(&mut table, choice);
+            all.push(table);
+        }
+    }
+    all
 }
 
 /// The same own row, with other rows, yields and some marks of its own: no list leaves this.
@@ -286,10 +418,7 @@ fn damage_once(random: &mut Random, image: &mut Vec<u8>) {
         4 => write_yield(image, 2, random.any_yield()),
         5 | 6 => write_yield(image, yields + 2 * random.below(n), random.any_yield()),
         7 => image[rows + 2 * random.below(n * n)] = random.below(n + 2) as u8,
-        8 => {
-            let limit = label_limit(n) as u8;
-            image[rows + 2 * random.below(n * n) + 1] = random.pick(&[0, 1, limit, limit + 1, 255]);
-        }
+        8 => image[rows + 2 * random.below(n * n) + 1] = random.pick(&edge_labels(n)),
         9 => {
             let column = random.below(n);
             let at = rows + 2 * n * random.below(n) + 2 * column;

@@ -9,10 +9,10 @@ mod model;
 mod pairs;
 mod parlour;
 
-use calls::{hex, share_of, Run};
+use calls::{hex, share_of, Counts, Run};
 use history::{History, Pasts};
 use images::{Random, EDGES};
-use model::Table;
+use model::{label_limit, Table};
 use pairs::{next_pair, Way, WAYS};
 use parlour::{buffer, Parlour, Seen};
 use std::process::exit;
@@ -112,6 +112,64 @@ fn edges(random: &mut Random, seen: &mut Seen, steps: usize) {
     }
 }
 
+/// Images from no list whose pair has as many names as there can be, each label in turn the lowest
+/// free one. Of 2 heads all images meet instead.
+fn used_up(random: &mut Random, seen: &mut Seen, steps: usize) {
+    let labels = |n| (0..=label_limit(n)).map(move |lowest| (n, lowest as u8));
+    let turns: Vec<(usize, u8)> = (3..=8).flat_map(labels).collect();
+    for step in 0..steps {
+        let (n, lowest) = turns[step % turns.len()];
+        let (first, second) = images::used_up(random, n, lowest);
+        let (first, second) = (first.to_bytes(), second.to_bytes());
+        let answer = seen.meet("labels used up", &first, &second, &random.bytes(n)).answer;
+        if answer != lowest as u32 && answer != 256 + 9 {
+            let images = [first, second].map(|image| hex(&image));
+            println!("label {lowest} is free, the answer is {answer}: {images:?}");
+            exit(1);
+        }
+    }
+}
+
+/// How many accepted images one of 2 heads can have, apart from yields: fresh; with its own latest
+/// alone; with both latests, one more name or none in the other row, and one mark set or not.
+const IMAGES_OF_TWO: usize = 1 + 7 + 7 * 7 * 8 * 2;
+
+/// Every image of one with every image of the other, each of them first once.
+const PAIRS_OF_TWO: usize = 2 * IMAGES_OF_TWO * IMAGES_OF_TWO;
+
+/// The kinds of these pairs: by whether their names are all different.
+const SIX_NAMES: &str = "2 heads, six names";
+const FEWER_NAMES: &str = "2 heads, fewer names";
+
+/// Every pair of accepted images of 2 heads, or so many of them.
+fn all_of_two(random: &mut Random, seen: &mut Seen, steps: usize) {
+    let [ones, twos] = [1, 2].map(|stall| images::all_of_two(random, stall));
+    assert_eq!([ones.len(), twos.len()], [IMAGES_OF_TWO; 2]);
+    let twos: Vec<(Vec<u8>, u8)> = twos.iter().map(with_labels).collect();
+    for (one, labels_of_one) in ones.iter().map(with_labels) {
+        for (two, labels_of_two) in &twos {
+            let names = (labels_of_one | labels_of_two).count_ones();
+            let kind = if names == 6 { SIX_NAMES } else { FEWER_NAMES };
+            for (first, second) in [(&one, two), (two, &one)] {
+                if random.below(PAIRS_OF_TWO) < steps {
+                    seen.meet(kind, first, second, &[0xee; 2]);
+                }
+            }
+        }
+    }
+}
+
+/// An image of one of 2 heads and the labels in it, a bit for each: all its names are of one pair.
+fn with_labels(table: &Table) -> (Vec<u8>, u8) {
+    let mut labels = 0;
+    for s in table.stalls() {
+        for (_, _, label) in table.stalls().filter_map(|r| table.named(s, r)) {
+            labels |= 1 << label;
+        }
+    }
+    (table.to_bytes(), labels)
+}
+
 /// Lists of every size against their whole history: each answer, and each byte of each image.
 fn against_history(random: &mut Random, seen: &mut Seen, items: usize) {
     for n in 2..=8 {
@@ -202,23 +260,9 @@ fn history_meeting(
     history.meeting(a, b);
 }
 
-fn main() {
-    let mut seen = Seen::default();
-    let parts: [(&str, u64, usize, fn(&mut Random, &mut Seen, usize)); 7] = [
-        ("two moments of a list", 0x5eed_0002, 80_000, moments),
-        ("rows from no list", 0x5eed_0003, 80_000, shaken),
-        ("from no list", 0x5eed_0004, 200_000, loose),
-        ("damaged or mismatched", 0x5eed_0005, 100_000, damaged),
-        ("a yield at an edge", 0x5eed_0008, 100_000, edges),
-        ("against history", 0x5eed_0006, 70_000, against_history),
-        ("ten years", 0x5eed_0007, 450_000, ten_years),
-    ];
-    for (kind, seed, steps, part) in parts {
-        println!("meetings: {kind}: seed {seed:#x}");
-        part(&mut Random(seed), &mut seen, share_of(steps));
-    }
-    seen.counts.print();
-    println!("  verdicts 0, 1, 2: {:?}; largest label {}", seen.verdicts, seen.most_label);
+/// Each verdict came up, and yields of heads not milked.
+fn require_answers(seen: &Seen) {
+    println!("  verdicts 0, 1, 2: {:?}", seen.verdicts);
     if seen.verdicts.contains(&0) {
         println!("a verdict never came up");
         exit(1);
@@ -229,12 +273,57 @@ fn main() {
         println!("not milked never came up");
         exit(1);
     }
-    seen.counts.require("meetings in all", 0..=9);
-    seen.counts.require_yields();
-    for kind in ["two moments of a list", "rows from no list", "from no list"] {
-        seen.counts.require(kind, [0, 9]);
+}
+
+/// Each label up to the limit was answered, but for the limit of 2 heads: only six different names
+/// leave none below it, and then the own rows have no meeting in common, which is 9.
+fn require_labels(seen: &Seen) {
+    for n in 2..=8 {
+        let highest = if n == 2 { label_limit(n) - 1 } else { label_limit(n) };
+        let two = [highest - 1, highest];
+        let times = two.map(|label| seen.labels.of(n, label));
+        println!("  {n} heads: highest labels {two:?}, answered {times:?} times");
+        seen.labels.require(n, 0..=highest);
+    }
+    seen.counts.require(SIX_NAMES, [9]);
+    if seen.labels.of(2, label_limit(2)) > 0 || seen.counts.of(SIX_NAMES, 0) > 0 {
+        println!("2 heads with six different names, or with the limit as their label, met");
+        exit(1);
+    }
+}
+
+/// Each kind of meeting was accepted, and refused in each way that it can be.
+fn require_numbers(counts: &Counts) {
+    counts.require("meetings in all", 0..=9);
+    counts.require_yields();
+    let from_no_list = ["rows from no list", "from no list", "labels used up", FEWER_NAMES];
+    for kind in from_no_list.into_iter().chain(["two moments of a list"]) {
+        counts.require(kind, [0, 9]);
     }
     for kind in ["against history", "ten years"] {
-        seen.counts.require(kind, [0, 8]);
+        counts.require(kind, [0, 8]);
     }
+}
+
+fn main() {
+    let mut seen = Seen::default();
+    let parts: [(&str, u64, usize, fn(&mut Random, &mut Seen, usize)); 9] = [
+        ("two moments of a list", 0x5eed_0002, 80_000, moments),
+        ("rows from no list", 0x5eed_0003, 80_000, shaken),
+        ("from no list", 0x5eed_0004, 200_000, loose),
+        ("damaged or mismatched", 0x5eed_0005, 100_000, damaged),
+        ("a yield at an edge", 0x5eed_0008, 100_000, edges),
+        ("labels used up", 0x5eed_0009, 126_000, used_up),
+        ("all of 2 heads", 0x5eed_000a, PAIRS_OF_TWO, all_of_two),
+        ("against history", 0x5eed_0006, 70_000, against_history),
+        ("ten years", 0x5eed_0007, 450_000, ten_years),
+    ];
+    for (kind, seed, steps, part) in parts {
+        println!("meetings: {kind}: seed {seed:#x}");
+        part(&mut Random(seed), &mut seen, share_of(steps));
+    }
+    seen.counts.print();
+    require_answers(&seen);
+    require_labels(&seen);
+    require_numbers(&seen.counts);
 }

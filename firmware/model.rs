@@ -1,5 +1,5 @@
-//! Document 01 with request 2026-01 in plain Rust: the other side of every comparison. Stalls, rows
-//! and columns count from 1 as they do there, so index 0 of each array is unused.
+//! Document 01 with requests 2026-01 and 2026-02 in plain Rust: the other side of every comparison.
+//! Stalls, rows and columns count from 1 as they do there, so index 0 of each array is unused.
 
 use std::ops::RangeInclusive;
 
@@ -45,8 +45,9 @@ pub fn length(n: usize) -> usize {
     2 * n * n + 3 * n + 4
 }
 
+/// Request 2026-02: "The label limit becomes 4 × N − 2 wherever labels are chosen or checked".
 pub fn label_limit(n: usize) -> usize {
-    4 * n
+    4 * n - 2
 }
 
 impl Table {
@@ -281,7 +282,9 @@ fn verdict(first: &Table, second: &Table, r: usize) -> Result<u8, u32> {
     }
 }
 
-/// The lowest label that no name of the pair has in any row of either image.
+/// The lowest label that no name of the pair has in any row of either image. Request 2026-02: "In
+/// each table the latest of the partner stands in two rows, so a pair has at most 4 × N − 2
+/// different names in both tables".
 fn free_label(first: &Table, second: &Table) -> u8 {
     let (low, high) = (first.stall.min(second.stall), first.stall.max(second.stall));
     let has = |table: &Table, label| {
@@ -291,7 +294,7 @@ fn free_label(first: &Table, second: &Table) -> u8 {
     };
     (0..=label_limit(first.n) as u8)
         .find(|&label| !has(first, label) && !has(second, label))
-        .expect("4 * N names cannot have 4 * N + 1 labels")
+        .expect("4 * N - 2 different names cannot have 4 * N - 1 labels")
 }
 
 /// The rows, yields and marks that both heads have after the meeting.

@@ -1,6 +1,6 @@
 //! Meetings in the library and in the model, alone and as the lists of a parlour.
 
-use crate::calls::{self, agree, hex, Counts, Outcome, Run};
+use crate::calls::{self, agree, hex, Counts, Labels, Outcome, Run};
 use crate::images::Random;
 use crate::model::{self, Meeting, Table, NOT_MILKED};
 use crate::pairs::{next_pair, Way, WAYS};
@@ -22,7 +22,7 @@ extern "C" {
 pub struct Seen {
     pub counts: Counts,
     pub verdicts: [u64; 3],
-    pub most_label: u32,
+    pub labels: Labels,
     /// How many left one of the two that met, and how many passed on another, as not milked.
     pub not_milked: [u64; 2],
 }
@@ -59,7 +59,7 @@ impl Seen {
         self.counts.add(kind, outcome.answer);
         self.counts.add("meetings in all", outcome.answer);
         if outcome.answer < 256 {
-            self.most_label = self.most_label.max(outcome.answer);
+            self.labels.add(outcome.runs[2].len(), outcome.answer as usize);
             outcome.runs[2].iter().for_each(|&verdict| self.verdicts[verdict as usize] += 1);
             self.note_not_milked(outcome);
         }

@@ -30,6 +30,13 @@ extern "C" {
 
 #define WILBRYN_IMAGE_LENGTH(n) (2u * (n) * (n) + 3u * (n) + 4u)
 
+/* Labels in images and answers run from 0 to this: 30 for 8 heads, so a label fits five bits. The
+   check refuses a higher one with 5. No meeting of two accepted images needs a higher one, whatever
+   made them, and some of 3 to 8 heads need this one. A meeting of 2 heads answers at most 5: two
+   images that use the labels 0 to 5 have no meeting in common and are refused with 9. Heads that
+   start fresh and are written by these calls alone never need more than N - 1. */
+#define WILBRYN_LABEL_LIMIT(n) (4u * (n) - 2u)
+
 /* The current yield of a head until its first milking, and the yield of a stall never heard. A cow
    that gave nothing has 0. */
 #define WILBRYN_NOT_MILKED 0xffff
@@ -57,8 +64,8 @@ uint32_t wilbryn_heard(const uint8_t *image, size_t len, uint8_t *records, size_
 
 /* Joins two heads of one parlour. Both images get the newest news of every stall; verdict byte
    r - 1 says who had it of stall r: 1 the first, 2 the second, 0 both the same. Answers the label
-   of the meeting (at most 4 * N), or 256 plus a refusal: 1 to 6 for the first image, 1 to 6 for the
-   second, then 7, 8, 9. */
+   of the meeting (at most WILBRYN_LABEL_LIMIT(N)), or 256 plus a refusal: 1 to 6 for the first
+   image, 1 to 6 for the second, then 7, 8, 9. */
 uint32_t wilbryn_meeting(uint8_t *first, size_t first_len, uint8_t *second, size_t second_len,
                          uint8_t *verdicts, size_t verdicts_len);
 

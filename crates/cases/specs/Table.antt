@@ -1,4 +1,4 @@
--- The cases of document 01's "Meetings to try" that are marked P.
+-- The cases of document 01's "Meetings to try" that are marked P, as the requests change them.
 use Prim.Native.Nat.{ℕ, _+_, _-_, _^_}
 use mathlib.Core.Bool.{_||_, cond}
 use mathlib.Core.List.{List, [], _∷_, _++_}
@@ -77,7 +77,7 @@ table =
     ∷ (milked 1000 gives (4 ∷ milkedImage (notMilked 1)))
     ∷ (milked 0xfe00 gives (4 ∷ milkedImage (notMilked 1)))
     ∷ (milked 0xffff gives (4 ∷ milkedImage (notMilked 1)))
-    -- "N=3, label 12 passes check 5 on range, 13 does not."
-    ∷ (number (withLabel 12) gives (0 ∷ []))
-    ∷ (number (withLabel 13) gives (5 ∷ []))
+    -- Request 2026-02: "for 3 stalls, 10 passes and 11 is number 5"
+    ∷ (number (withLabel 10) gives (0 ∷ []))
+    ∷ (number (withLabel 11) gives (5 ∷ []))
     ∷ []

@@ -1,9 +1,9 @@
--- An accepted image holds a well-made table.
-use Prim.Native.Nat.{ℕ}
+-- An accepted image holds a well-made table, with labels of five bits.
+use Prim.Native.Nat.{ℕ, _^_, _≤_, _<_}
 use mathlib.Core.Path.{ap₂}
 use mathlib.Core.List.{List}
 use native.Mathlib.Omega.{arith}
-use Rattle.image.specs.Layout.{partnerAt, labelAt, nameFrom, nameAt, heardAt}
+use Rattle.image.specs.Layout.{labelLimit, partnerAt, labelAt, nameFrom, nameAt, heardAt}
 use Rattle.image.specs.Check.{badYields, badDiagonal, badUnheard, badRow, badNames, badOrder, badMarks}
 use Rattle.image.specs.Encode.{tableOf}
 use Rattle.image.specs.Made.{Made}
@@ -28,3 +28,8 @@ accepted-made {s} {n} {own} w =
       marked-self = λ r i j. simp never (λ h. marks r i j .1 h .0);
       marked-own = λ r i j. simp never (λ h. marks r i j .1 h .1);
     }
+
+-- each label byte is within the limit, and that is below 32
+pub label-bits : {s : List ℕ} {n own : ℕ} → Accepted s n own → (r c : ℕ) → 1 ≤ r → r ≤ n → 1 ≤ c → c ≤ n → labelAt s n r c < 2 ^ 5
+unfolding labelLimit badRow badNames
+label-bits w r c i j k l = let names = simp passing at (w .names) in omega (arith, names r i j .0 .0 c k l .1, w .frame .n-to)

@@ -47,6 +47,14 @@ some-holds n f = go (some n f) (some-found n f)
     go t (at r k l d) = (λ e. (r, k, l, d), λ w. refl)
     go t (nowhere g) = (λ e. absurd (true≢false (sym e)), λ w. absurd (true≢false (sym (w .3) ∙ g (w .0) (w .1) (w .2))))
 
+-- what passes at a place was found already
+pub some-more : (n : ℕ) (f : ℕ → Bool) (s : ℕ) → 1 ≤ s → s ≤ n → (f s || some n f) ≡ some n f
+some-more n f s a b = go (f s) refl
+  where
+    go : (t : Bool) → f s ≡ t → (t || some n f) ≡ some n f
+    go true e = sym (some-holds n f .1 (s, a, b, e))
+    go false e = refl
+
 -- what is at no place is not found
 some-none : (n : ℕ) (f : ℕ → Bool) → ((s : ℕ) → 1 ≤ s → s ≤ n → f s ≡ false) → some n f ≡ false
 unfolding some

@@ -25,7 +25,7 @@ badStall n own = not (leb 1 own && leb own n)
 unfoldable pub badYields : List ℕ → ℕ → Bool
 badYields s n = not (isYield (currentAt s)) || some n (λ r. not (isYield (yieldAt s n r)))
 
--- 5, of one name in column c: "partner 0 with label not 0; partner above N or equal to the column; label above 4 × N"
+-- 5, of one name in column c: "partner 0 with label not 0; partner above N or equal to the column; label above" the limit
 abbrev pub badName : ℕ → ℕ → ℕ → ℕ → ℕ → Bool
 badName n limit c partner label =
     eqb partner 0 && not (eqb label 0) || ltb n partner || eqb partner c || ltb limit label

@@ -1,17 +1,18 @@
--- Document 01's examples for the numbers 1 to 6, as request 2026-01 changes them, the yields that it names, and the listing's image, by evaluation.
+-- Document 01's examples for the numbers 1 to 6, as request 2026-01 changes them, the yields that it names, the labels that request 2026-02 names, and the listing's
+-- image, by evaluation.
 use Prim.Native.Nat.{ℕ, _*_}
 use mathlib.Core.Path.{_≡_, refl}
 use mathlib.Core.List.{List, [], _∷_, _++_, map}
 use lib.ListN.{replicate}
 use Rattle.image.specs.Stalls.{some, each, bits, has}
-use Rattle.image.specs.Layout.{noYield, isYield, orderWidth, orderFrom, markAt, nameFrom, nameAt, heardAt}
+use Rattle.image.specs.Layout.{noYield, isYield, labelLimit, orderWidth, orderFrom, markAt, nameFrom, nameAt, heardAt}
 use Rattle.image.specs.Check.{badCount, badLength, badYields, badDiagonal, badUnheard, badRow, badNames, badOrder, badMarks, checkBody, checked, numberOf}
 use Rattle.image.specs.Encode.{nothing, wordBytes, orderBytes, encode, tableOf}
 use Rattle.image.specs.Fresh.{freshImage, freshTable}
 
 -- whoever unfolds this unfolds all that an image is made, read and checked with
 unfoldable pub evaluated : Unit {0}
-unfolding some each bits has noYield isYield orderWidth orderFrom orderBytes markAt nameFrom nameAt heardAt nothing encode tableOf freshImage freshTable badCount badLength badYields badDiagonal badUnheard badRow badNames badOrder badMarks checkBody checked
+unfolding some each bits has noYield isYield labelLimit orderWidth orderFrom orderBytes markAt nameFrom nameAt heardAt nothing encode tableOf freshImage freshTable badCount badLength badYields badDiagonal badUnheard badRow badNames badOrder badMarks checkBody checked
 evaluated = tt
 
 -- not milked, and the bytes of so many such yields
@@ -77,10 +78,10 @@ nine-first = 2 ∷ 1 ∷ 0 ∷ 0 ∷ 2 ∷ 0 ∷ 1 ∷ 0 ∷ 2 ∷ 0 ∷ 1 ∷ 0
 abbrev pub nine-second : List ℕ
 nine-second = 2 ∷ 2 ∷ 0 ∷ 0 ∷ 2 ∷ 1 ∷ 1 ∷ 1 ∷ 2 ∷ 1 ∷ 1 ∷ 1 ∷ 0 ∷ 0 ∷ 0 ∷ 0 ∷ 3 ∷ 3 ∷ []
 
--- N = 3: label 12 passes, 13 does not; a fresh image and both images of number 9's example pass
+-- Request 2026-02: "for 3 stalls, 10 passes and 11 is number 5"; a fresh image and both images of number 9's example pass
 accepted-examples : map number
-    (withLabel 12
-    ∷ withLabel 13
+    (withLabel 10
+    ∷ withLabel 11
     ∷ freshImage 2 1
     ∷ nine-first
     ∷ nine-second

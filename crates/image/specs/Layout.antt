@@ -30,9 +30,9 @@ noYield = 0xffff
 unfoldable pub isYield : ℕ → Bool
 isYield x = leb x yieldLimit || eqb x noYield
 
--- "Labels run from 0 to 4 × N."
-abbrev pub labelLimit : ℕ → ℕ
-labelLimit n = 4 * n
+-- "Labels run from 0 to" what request 2026-02 makes it: "The label limit becomes 4 × N − 2 wherever labels are chosen or checked"
+unfoldable pub labelLimit : ℕ → ℕ
+labelLimit n = 4 * n - 2
 
 -- "Length 2 × N × N + 3 × N + 4", for 2 to 8 heads; 0 for any other number
 abbrev pub lengthOf : ℕ → ℕ

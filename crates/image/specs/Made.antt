@@ -7,7 +7,7 @@ use Rattle.image.specs.Encode.{Table}
 use Rattle.image.specs.declared.Name.{Name}
 use Rattle.image.specs.declared.Name.the-variants.{Never, With}
 
--- a name that may stand in column c: the partner is another stall of 1 to n, and "Labels run from 0 to 4 × N."
+-- a name that may stand in column c: the partner is another stall of 1 to n, and "Labels run from 0 to" the limit
 abbrev pub NameIn : ℕ → ℕ → Name → Type 0
 NameIn n c Never = Unit {0}
 NameIn n c (With m) = (1 ≤ m .partner) × (m .partner ≤ n) × (m .partner ≡ c → ⊥) × (m .label ≤ labelLimit n)
@@ -18,7 +18,7 @@ pub record Made (n own : ℕ) (t : Table) : Type 0 where
   pub current-in : isYield (t .current) ≡ true
   -- and no other "stall .. yield over 999"
   pub yields-in : (r : ℕ) → 1 ≤ r → r ≤ n → isYield (t .yields r) ≡ true
-  -- no "partner above N or equal to the column; label above 4 × N"
+  -- no "partner above N or equal to the column; label above" the limit
   pub names-in : (r c : ℕ) → 1 ≤ r → r ≤ n → 1 ≤ c → c ≤ n → NameIn n c (t .names r c)
   -- no "row r, column r not equal to the own row's column r"
   pub diagonal : (r : ℕ) → 1 ≤ r → r ≤ n → t .names r r ≡ t .names own r

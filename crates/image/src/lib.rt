@@ -67,7 +67,7 @@ impl Head {
     pub fn label_limit(n: u8) -> usize
         ensures { λ r. ⌜ r ≡ labelLimit n ⌝ }
     {
-        4 * (n as usize)
+        bytes::less(4 * bytes::wide(n), 2)
     }
 
     pub fn fresh(n: u8, stall: u8) -> Head

@@ -1,6 +1,5 @@
 -- The theorems of `specs/Theory.antt` hold for every N and every history of meetings of 1 to N.
 use Prim.Native.Nat.{ℕ}
-use native.Mathlib.Omega.{arith}
 use Rattle.causality.specs.Event.{History}
 use Rattle.causality.specs.Meetings.{Joins}
 use Rattle.labels.specs.Theory.{Theory}
@@ -16,5 +15,4 @@ theory N h joins =
       label-agree = λ g k. label-agree N k;
       names-agree = names-agree N h joins;
       label-bound = label-bound N h joins;
-      label-limit = λ k. omega (arith, label-bound N h joins k);
     }

@@ -1,5 +1,5 @@
 -- The theorems of `labels`, as one record with a field for each. `proofs/Theory.antt` proves it for every N and every history of meetings of 1 to N.
-use Prim.Native.Nat.{ℕ, suc, _*_, _≤_, _<_}
+use Prim.Native.Nat.{ℕ, suc, _≤_, _<_}
 use mathlib.Core.Path.{_≡_}
 use mathlib.Core.Logic.{_↔_, _⊎_}
 use lib.Dec.{T}
@@ -30,6 +30,5 @@ pub record Theory (N : ℕ) (h : History) : Type 0 where
   -- 5. Two names in own rows, neither of them none, of any heads and in any columns, give the same pair and label exactly for the same meeting.
   pub names-agree : (n z s y t : ℕ) → 0 < latest h n z s → 0 < latest h n y t
       → SameName (nameOf N h s (latest h n z s)) (nameOf N h t (latest h n y t)) ↔ (latest h n z s ≡ latest h n y t)
-  -- 6. Labels of lists are at most N - 1, so at most 4 × N.
+  -- 6. Labels of lists are at most N - 1.
   pub label-bound : (k : ℕ) → label N h (suc k) < N
-  pub label-limit : (k : ℕ) → label N h (suc k) ≤ 4 * N

@@ -1,5 +1,5 @@
 -- The laws of `specs/Theory.antt` hold of every two images.
-use Prim.Native.Nat.{ℕ, _≤_, _<_}
+use Prim.Native.Nat.{ℕ, _^_, _≤_, _<_}
 use mathlib.Core.Path.{_≡_, refl, sym, ap, _∙_}
 use mathlib.Core.Bool.{false, not, cond}
 use mathlib.Core.Logic.{_⊎_, inl, inr}
@@ -10,6 +10,7 @@ use lib.Dec.{eqb}
 use lib.ListN.{length, drop, replicate, length-replicate, getD-replicate}
 use lib.Seq.{take-all}
 use Rattle.image.specs.Stalls.{each}
+use Rattle.image.specs.Layout.{labelLimit}
 use Rattle.image.specs.Check.{checked}
 use Rattle.image.specs.Encode.{encode, tableOf}
 use Rattle.image.specs.Theory.{Passes}
@@ -21,6 +22,9 @@ use Rattle.merge.specs.Verdict.{undecided}
 use Rattle.merge.specs.Merged.{merged}
 use Rattle.merge.specs.Call.{MeetingOutcome, refusedMeeting, acceptedMeeting, metTogether, metGood, metChecked, meetingCall}
 use Rattle.merge.specs.Theory.{Theory}
+use Rattle.merge.proofs.Heads.{Heads, accepted-heads}
+use Rattle.merge.proofs.label.Counting.{count-names}
+use Rattle.merge.proofs.label.TwoHeads.{label-of-two}
 use Rattle.merge.proofs.label.NewLabel.{newLabel-most, newLabel-limit, newLabel-lowest, newLabel-free}
 use Rattle.merge.proofs.meeting.AfterMeeting.{take-each}
 use Rattle.merge.proofs.meeting.MeetingCalls.{apart, one-parlour}
@@ -30,6 +34,10 @@ zeros : (n : ℕ) → each n (λ r. 0 ∷ []) ≡ replicate n 0
 zeros n =
     sym (take-each n (replicate n 0) (λ r. 0) (omega (arith, length-replicate {A = ℕ} n 0)) (λ r i j. getD-replicate n _ 0 0 (omega arith)))
     ∙ take-all n (replicate n 0) (omega (arith, length-replicate {A = ℕ} n 0))
+
+-- the two heads, where both images pass
+heads : (s u : List ℕ) {n p q : ℕ} → Passes s n p → Passes u n q → (p ≡ q → ⊥) → Heads n p (tableOf s n) q (tableOf u n)
+heads s u a b differ = accepted-heads (accepted s _ a) (accepted u _ b) differ
 
 module _ (s u buffer : List ℕ) where
   -- refused: both images as they were
@@ -86,6 +94,21 @@ module _ (s u buffer : List ℕ) where
   taken : meetingCall s u buffer .answer < 256 → Taken (meetingCall s u buffer)
   taken l = elim meeting-either [ inl w ↦ absurd (omega (arith, w .number)) | inr w ↦ w ]
 
+  -- its label is within the limit
+  limit : meetingCall s u buffer .answer < 256 → meetingCall s u buffer .answer ≤ labelLimit (length buffer)
+  limit l =
+      let w = taken l in
+      rw (w .is, w .long) (newLabel-limit (heads s u (w .first-passes) (w .second-passes) (w .differ)))
+
+  bits : meetingCall s u buffer .answer < 256 → meetingCall s u buffer .answer < 2 ^ 5
+  unfolding labelLimit
+  bits l = let w = taken l in omega (arith, limit l, w .long, accepted s _ (w .first-passes) .frame .n-to)
+
+  two : meetingCall s u buffer .answer < 256 → length buffer ≡ 2 → meetingCall s u buffer .answer < labelLimit 2
+  two l e =
+      let w = taken l in
+      rw (w .is) (label-of-two (sym (w .long) ∙ e) (heads s u (w .first-passes) (w .second-passes) (w .differ)) (w .decided))
+
   -- the check says the same afterwards
   stays : (checked (meetingCall s u buffer .first) ≡ checked s) × (checked (meetingCall s u buffer .second) ≡ checked u)
   stays =
@@ -136,7 +159,12 @@ theory =
     record {
       newLabel-free = newLabel-free;
       newLabel-lowest = newLabel-lowest;
-      newLabel-limit = newLabel-limit;
+      newLabel-most = newLabel-most;
+      pair-names = λ s u n p q a b differ t. omega (arith, count-names (heads s u a b differ) t);
+      newLabel-limit = λ s u n p q a b differ. newLabel-limit (heads s u a b differ);
+      meeting-limit = limit;
+      meeting-bits = bits;
+      label-of-two = two;
       nine-iff = λ s u buffer n p q a b differ long. laws.nine-iff (accepted s _ a) (accepted u _ b) differ buffer long;
       meeting-accepted = stays;
       after-same = same;

@@ -7,6 +7,7 @@ pub mod Call
 pub mod Theory
 pub mod Examples
 pub mod CallExamples
+pub mod Crowded
 -- What the functions of `merge` say to each other. No caller sees this.
 pub mod ByStall
 pub mod Views

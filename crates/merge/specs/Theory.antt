@@ -1,5 +1,5 @@
 -- What callers may use of a meeting, as one record with a field for each law. `proofs/Theory.antt` proves it for every two images, of a list or not.
-use Prim.Native.Nat.{ℕ, _+_, _≤_, _<_}
+use Prim.Native.Nat.{ℕ, _+_, _^_, _≤_, _<_}
 use mathlib.Core.Path.{_≡_}
 use mathlib.Core.Logic.{_↔_}
 use mathlib.Core.Bool.{true, false}
@@ -10,14 +10,25 @@ use Rattle.image.specs.Check.{checked}
 use Rattle.image.specs.Encode.{Table, tableOf}
 use Rattle.image.specs.Theory.{Passes}
 use Rattle.merge.specs.Verdict.{undecided}
-use Rattle.merge.specs.Label.{labelUsed, newLabel}
+use Rattle.merge.specs.Label.{labelUsed, count, pairNames, newLabel}
 use Rattle.merge.specs.Call.{meetingCall}
 
 pub record Theory : Type 0 where
-  -- "The label is the lowest that no name of this pair has in any row of either image. At most 4 × N names lie in the pair's two columns, so one is always there."
+  -- "The label is the lowest that no name of this pair has in any row of either image. At most 4 × N names lie in the pair's two columns, so one is always there.":
+  -- of any two tables, however they are made.
   pub newLabel-free : (n p : ℕ) (a : Table) (q : ℕ) (b : Table) → labelUsed n p a q b (newLabel n p a q b) ≡ false
   pub newLabel-lowest : (n p : ℕ) (a : Table) (q : ℕ) (b : Table) (k : ℕ) → k < newLabel n p a q b → labelUsed n p a q b k ≡ true
-  pub newLabel-limit : (n p : ℕ) (a : Table) (q : ℕ) (b : Table) → newLabel n p a q b ≤ labelLimit n
+  pub newLabel-most : (n p : ℕ) (a : Table) (q : ℕ) (b : Table) → newLabel n p a q b ≤ pairNames n
+  -- Request 2026-02: "In each table the latest of the partner stands in two rows, so a pair has at most 4 × N − 2 different names in both tables." Names of one pair
+  -- differ in their labels, so this counts labels. It holds of any two accepted images, of a list or not, whether they belong together or not.
+  pub pair-names : (s u : List ℕ) (n p q : ℕ) → Passes s n p → Passes u n q → (p ≡ q → ⊥) → (t : ℕ) → count t (labelUsed n p (tableOf s n) q (tableOf u n)) ≤ labelLimit n
+  -- So one of 0 to the limit is always free, and the label is one of these; and so is what a meeting answers that is not refused.
+  pub newLabel-limit : (s u : List ℕ) (n p q : ℕ) → Passes s n p → Passes u n q → (p ≡ q → ⊥) → newLabel n p (tableOf s n) q (tableOf u n) ≤ labelLimit n
+  pub meeting-limit : (s u buffer : List ℕ) → let o = meetingCall s u buffer in o .answer < 256 → o .answer ≤ labelLimit (length buffer)
+  -- "Our link people need the label in five bits."
+  pub meeting-bits : (s u buffer : List ℕ) → let o = meetingCall s u buffer in o .answer < 256 → o .answer < 2 ^ 5
+  -- Two heads by themselves never reach it: with six different names their own rows have no meeting in common, and they do not belong together.
+  pub label-of-two : (s u buffer : List ℕ) → let o = meetingCall s u buffer in o .answer < 256 → length buffer ≡ 2 → o .answer < labelLimit 2
   -- Where none of 1 to 8 applies, 9 is for exactly the images that do not belong together.
   pub nine-iff : (s u buffer : List ℕ) (n p q : ℕ) → Passes s n p → Passes u n q → (p ≡ q → ⊥) → length buffer ≡ n
       → (meetingCall s u buffer .answer ≡ 256 + 9) ↔ (undecided n p (tableOf s n) q (tableOf u n) ≡ true)

@@ -14,6 +14,7 @@ use Rattle.causality.specs.Meetings as Events
 use Rattle.causality.specs.Meetings.{Joins}
 use Rattle.causality.proofs.Events.{of-either, of-cases}
 use Rattle.labels.specs.Label as Label
+use Rattle.labels.proofs.Limit.{label-bound}
 use Rattle.image.specs.Stalls.{each}
 use Rattle.image.specs.Layout.{labelLimit}
 use Rattle.image.specs.Encode.{Table, encode, tableOf}
@@ -23,6 +24,7 @@ use Rattle.merge.specs.Merged.{merged, verdictBytes}
 use Rattle.merge.specs.Verdict.{undecided}
 use Rattle.merge.specs.Call.{MeetingOutcome, refusedMeeting, acceptedMeeting, metTogether}
 use Rattle.merge.proofs.pairs.PairRows.{each-agree}
+use Rattle.merge.proofs.Heads.{accepted-heads}
 use Rattle.merge.proofs.label.NewLabel.{newLabel-most, newLabel-limit}
 use Rattle.merge.proofs.meeting.AfterLaws.{meeting-short, meeting-called, meeting-accepted}
 use Rattle.parlour.specs.Item.{Item, meeting, counts}
@@ -95,7 +97,8 @@ module _ {n : ℕ} {l : List Item} {images : Images} (w : Kept n l images) (p q 
       ∙ each-map n (Best.best (events l) (meetings l) p q)
 
   answer-in : length buffer ≡ n → answer ≤ labelLimit n
-  answer-in e = subst (λ x. x ≤ labelLimit n) (sym (ap (λ o. o .answer) (taken e))) (newLabel-limit n p a q b)
+  answer-in e =
+      subst (λ x. x ≤ labelLimit n) (sym (ap (λ o. o .answer) (taken e))) (newLabel-limit (accepted-heads (w .good p p-from p-to) (w .good q q-from q-to) differ))
 
   -- after it each of the two has the image of the history with the meeting
   met-image : (z : ℕ) → Of (events next) z (suc (meetings l)) → (current : ℕ) → current ≡ yieldAfter l z
@@ -119,6 +122,8 @@ module _ {n : ℕ} {l : List Item} {images : Images} (w : Kept n l images) (p q 
         buffer-unchanged = λ e. ap (λ o. o .verdicts) (short (eqb-false _ n e));
         label = λ x y k e c. ap (λ o. o .answer) (taken (eqb-true _ n c)) ∙ label-is;
         label-in = λ x y k e c. answer-in (eqb-true _ n c);
+        label-below = λ x y k e c.
+            omega (arith, ap (λ o. o .answer) (taken (eqb-true _ n c)), label-is, label-bound n (events next) joined (meetings l));
         verdicts = λ x y k e c.
             let i : p ≡ x = cc in
             let j : q ≡ y = cc in

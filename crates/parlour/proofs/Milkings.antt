@@ -60,6 +60,7 @@ module _ {n : ℕ} {l : List Item} {images : Images} (w : Kept n l images) (stal
         buffer-unchanged = λ e. refl;
         label = λ p q buffer e. absurd (no-meeting e);
         label-in = λ p q buffer e. absurd (no-meeting e);
+        label-below = λ p q buffer e. absurd (no-meeting e);
         verdicts = λ p q buffer e. absurd (no-meeting e);
       }
     where

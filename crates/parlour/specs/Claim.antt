@@ -1,5 +1,5 @@
 -- Demand 3: what a list of calls leaves, sentence by sentence of "The claim" in document 01's "What a list leaves".
-use Prim.Native.Nat.{ℕ, _+_, _≤_}
+use Prim.Native.Nat.{ℕ, _+_, _≤_, _<_}
 use mathlib.Core.Path.{_≡_}
 use mathlib.Core.Logic.{_↔_}
 use mathlib.Core.Bool.{Bool, true, false}
@@ -44,8 +44,10 @@ pub record CallClaim (n : ℕ) (c : Called) (before : List Item) : Type 0 where
   -- "Each meeting that counts returns its label,"
   pub label : (p q : ℕ) (buffer : List ℕ) → c .item ≡ meeting p q buffer → counts n (c .item) ≡ true
       → c .answer ≡ Label.label n (events (c .item ∷ before)) (meetings (c .item ∷ before))
-  -- "at most 4 × N,"
+  -- "at most" the limit of request 2026-02,
   pub label-in : (p q : ℕ) (buffer : List ℕ) → c .item ≡ meeting p q buffer → counts n (c .item) ≡ true → c .answer ≤ labelLimit n
+  -- and, for a list from fresh images, even below N
+  pub label-below : (p q : ℕ) (buffer : List ℕ) → c .item ≡ meeting p q buffer → counts n (c .item) ≡ true → c .answer < n
   -- "and its buffer then holds the N verdicts of the first section, read from the history before it."
   pub verdicts : (p q : ℕ) (buffer : List ℕ) → c .item ≡ meeting p q buffer → counts n (c .item) ≡ true
       → c .verdicts ≡ Best.verdicts (events before) (meetings before) n p q

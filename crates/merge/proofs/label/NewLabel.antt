@@ -11,18 +11,16 @@ use Rattle.image.specs.Encode.{Table}
 use Rattle.image.proofs.Search.{some-or}
 use Rattle.merge.specs.Label.{rowHas, lowestFrom, labelUsed, pairNames, newLabel}
 use Rattle.merge.specs.LabelSet.{labelSet, hasLabel}
+use Rattle.merge.proofs.Heads.{Heads}
 use Rattle.merge.proofs.label.LabelSets.{has-label, set-or}
 use Rattle.merge.proofs.label.Lowest.{lowest-to, lowest-below, lowest-stops, lowest-is, lowest-agree}
-use Rattle.merge.proofs.label.Counting.{not-all-used}
+use Rattle.merge.proofs.label.Counting.{count-below, not-all-used, count-names}
 
 module _ (n p : ℕ) (a : Table) (q : ℕ) (b : Table) where
   -- however the tables are made
   pub newLabel-most : newLabel n p a q b ≤ pairNames n
   unfolding newLabel
   newLabel-most = omega (arith, lowest-to (pairNames n) 0 (labelUsed n p a q b))
-
-  pub newLabel-limit : newLabel n p a q b ≤ labelLimit n
-  newLabel-limit = omega (arith, newLabel-most)
 
   pub newLabel-lowest : (k : ℕ) → k < newLabel n p a q b → labelUsed n p a q b k ≡ true
   unfolding newLabel
@@ -54,6 +52,12 @@ module _ (n p : ℕ) (a : Table) (q : ℕ) (b : Table) where
         | yes i ↦ ap (λ k. lowestFrom k 0 (labelUsed n p a q b)) (sym i)
         | no i ↦ lowest-is t 0 (newLabel n p a q b) (labelUsed n p a q b) (omega arith) (omega (arith, newLabel-most)) (λ j i m. newLabel-lowest j m) newLabel-free
       ]
+
+-- all labels below it are used, so it is at most as many as names of the pair can have
+pub newLabel-limit : {n p : ℕ} {a : Table} {q : ℕ} {b : Table} → Heads n p a q b → newLabel n p a q b ≤ labelLimit n
+newLabel-limit {n} {p} {a} {q} {b} w =
+    let t = newLabel n p a q b in
+    omega (arith, count-below t t (labelUsed n p a q b) (omega arith) (newLabel-lowest n p a q b), count-names w t)
 
 -- the labels of both tables
 pub label-chosen : (n p : ℕ) (a : Table) (q : ℕ) (b : Table) → pairNames n ≤ 64

@@ -125,8 +125,8 @@ module _ {n p : ℕ} {a : Table} {q : ℕ} {b : Table} (w : Meets n p a q b) whe
   unfolding latestName
   latest-in c k l =
       pick (NameIn n c) (eqb c p) (eqb c q) (newName n p a q b q) (newName n p a q b p) (supplier n p a q b c .names (supplierStall n p a q b c) c)
-      (λ e. (w .heads .q-from, w .heads .q-to, λ z. w .heads .differ (sym (z ∙ eqb-true c p e)), newLabel-limit n p a q b))
-      (λ e. (w .heads .p-from, w .heads .p-to, λ z. w .heads .differ (z ∙ eqb-true c q e), newLabel-limit n p a q b))
+      (λ e. (w .heads .q-from, w .heads .q-to, λ z. w .heads .differ (sym (z ∙ eqb-true c p e)), newLabel-limit (w .heads)))
+      (λ e. (w .heads .p-from, w .heads .p-to, λ z. w .heads .differ (z ∙ eqb-true c q e), newLabel-limit (w .heads)))
       (λ e. subst (NameIn n c) (supplied c .diagonal c k l) (supplied c .names-in c c k l k l))
 
   names-in : (r c : ℕ) → 1 ≤ r → r ≤ n → 1 ≤ c → c ≤ n → NameIn n c (mergedNames n p a q b r c)
