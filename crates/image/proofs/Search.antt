@@ -1,4 +1,4 @@
--- Loops that look whether some of 1 to n passes a test, at places one width apart.
+-- Whether some of 1 to n passes a test: loops that look for it at places one width apart, and laws of what they find.
 use Prim.Native.Nat.{ℕ, zero, suc, _+_, _-_, _*_, _≤_, _<_}
 use mathlib.Core.Path.{_≡_, refl, sym, ap, ap₂, _∙_}
 use mathlib.Core.Bool.{Bool, true, false, _||_}
