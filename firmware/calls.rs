@@ -15,7 +15,7 @@ extern "C" {
 pub type Run = Box<[u8]>;
 
 /// What a call leaves: its answer, and each run that it was lent.
-#[derive(PartialEq)]
+#[derive(Clone, PartialEq)]
 pub struct Outcome {
     pub answer: u32,
     pub runs: Vec<Run>,

@@ -1,4 +1,4 @@
-/* The examples of document 01 with requests 2026-01 and 2026-02, on the functions of wilbryn.h.
+/* The examples of document 01 with requests 2026-01 to 2026-03, on the functions of wilbryn.h.
    Every run is lent in a heap block of exactly its length. The first difference ends the run. */
 #include "wilbryn.h"
 
@@ -168,6 +168,26 @@ static void meeting_refused(uint32_t number, struct run first, struct run second
     struct run unchanged = lend(buffer);
     meeting(256 + number, first, second, unchanged);
     give_back(unchanged);
+}
+
+/* The verdicts with the two named the other way: 1 and 2 are exchanged. */
+static struct run exchanged(struct run verdicts) {
+    struct run turned = copy(verdicts);
+    for (size_t r = 0; r < turned.len; r++) {
+        turned.bytes[r] = (uint8_t)((3 - turned.bytes[r]) % 3);
+    }
+    return turned;
+}
+
+/* Two heads of a list meet. Copies of them, named the other way, get the same label and bytes. */
+static void meeting_either_way(uint32_t label, struct run one, struct run other,
+                               struct run verdicts) {
+    struct run turned[] = {copy(other), copy(one), exchanged(verdicts)};
+    meeting(label, turned[0], turned[1], turned[2]);
+    meeting(label, one, other, verdicts);
+    expect_bytes("the one, named second", one, turned[1]);
+    expect_bytes("the other, named first", other, turned[0]);
+    for (int i = 0; i < 3; i++) give_back(turned[i]);
 }
 
 /* The refusals 1 to 6. The first of each number is document 01's own example; alone: with no other
@@ -349,8 +369,8 @@ static void try_lists(void) {
         for (uint8_t r = 1; r <= parlour.n; r++) milking(0, parlour.images[r], r);
         for (const char *label = lists[i].labels; *label != '\0'; label++) {
             for (size_t r = 0; r < parlour.n; r++) verdicts.bytes[r] = (uint8_t)(digits[r] - '0');
-            meeting((uint32_t)(*label - '0'), parlour.images[pair[0] - '0'],
-                    parlour.images[pair[1] - '0'], verdicts);
+            meeting_either_way((uint32_t)(*label - '0'), parlour.images[pair[0] - '0'],
+                               parlour.images[pair[1] - '0'], verdicts);
             pair += 3;
             digits += parlour.n + 1;
         }
@@ -359,18 +379,45 @@ static void try_lists(void) {
     }
 }
 
-static void try_listing(void) {
-    doing = "the listing";
+/* The listing as document 01 has it, or with the two of each meeting named the other way: the same
+   labels and images, and the verdicts 1 and 2 exchanged. */
+static void try_listing_named(int one, int other, const char *last_verdicts) {
     struct parlour parlour = open(3);
     struct run *images = parlour.images;
-    struct run none_newer = from_hex("000000"), first_newer = from_hex("010100");
+    struct run none_newer = from_hex("000000"), two_newer = from_hex(last_verdicts);
     milking(0, images[1], 18);
-    meeting(0, images[1], images[2], none_newer);
-    meeting(0, images[2], images[3], first_newer);
+    meeting(0, images[one], images[other], none_newer);
+    meeting(0, images[one + 1], images[other + 1], two_newer);
     for (int i = 0; i < 3; i++) expect_hex("an image", listing[i], images[i + 1]);
-    give_back(first_newer);
+    give_back(two_newer);
     give_back(none_newer);
     shut(parlour);
+}
+
+static void try_listing(void) {
+    doing = "the listing";
+    try_listing_named(1, 2, "010100");
+    doing = "the listing, named the other way";
+    try_listing_named(2, 1, "020200");
+}
+
+/* Heads 2 and 3 of the listing, but head 3 has 19 for stall 1, of which both have the same news. No
+   list leaves such images. Either way round they meet with one label and with no news newer, but
+   each time both get the yield that the first has. */
+static void try_from_no_list(void) {
+    doing = "images from no list, named either way";
+    struct run two = from_hex(listing[1]), none_newer = from_hex("000000");
+    struct run three =
+        from_hex("0303 ffff 020001000000 020003000200 020003000200 0013ffffffff 070606");
+    struct run turned[] = {copy(three), copy(two)};
+    meeting(1, two, three, none_newer);
+    expect_hex("head 2, named first",
+               "0302 ffff 020001000000 020003010201 020003010201 0012ffffffff 070606", two);
+    meeting(1, turned[0], turned[1], none_newer);
+    expect_hex("head 2, named second",
+               "0302 ffff 020001000000 020003010201 020003010201 0013ffffffff 070606", turned[1]);
+    struct run all[] = {two, none_newer, three, turned[0], turned[1]};
+    for (int i = 0; i < 5; i++) give_back(all[i]);
 }
 
 /* What heads 1 and 3 have after they met below, by the rules of document 01. */
@@ -640,6 +687,7 @@ int main(void) {
     try_heard();
     try_lists();
     try_listing();
+    try_from_no_list();
     try_not_milked();
     try_not_milked_after();
     try_places();

@@ -65,7 +65,11 @@ uint32_t wilbryn_heard(const uint8_t *image, size_t len, uint8_t *records, size_
 /* Joins two heads of one parlour. Both images get the newest news of every stall; verdict byte
    r - 1 says who had it of stall r: 1 the first, 2 the second, 0 both the same. Answers the label
    of the meeting (at most WILBRYN_LABEL_LIMIT(N)), or 256 plus a refusal: 1 to 6 for the first
-   image, 1 to 6 for the second, then 7, 8, 9. */
+   image, 1 to 6 for the second, then 7, 8, 9.
+
+   Either head may be lent first if those of the parlour start fresh and are written by these calls
+   alone: the label and both images are the same, and verdicts 1 and 2 exchanged. Of other images
+   this is not so: where the verdict is 0 but they differ, both get what the first has. */
 uint32_t wilbryn_meeting(uint8_t *first, size_t first_len, uint8_t *second, size_t second_len,
                          uint8_t *verdicts, size_t verdicts_len);
 
