@@ -72,7 +72,7 @@ module _ {n : ℕ} {l : List Item} {images : Images} (w : Kept n l images) (p q 
   together : undecided n p a q b ≡ false
   together = decided n (events l) (w .joins) (meetings l) (kept-says w p p-from p-to) (kept-says w q q-from q-to) p-from p-to q-from q-to
 
-  taken : length buffer ≡ n → outcome ≡ acceptedMeeting (images p) (images q) buffer n p q
+  pub taken : length buffer ≡ n → outcome ≡ acceptedMeeting (images p) (images q) buffer n p q
   unfolding metTogether
   taken e =
       call .learnt
