@@ -1,7 +1,7 @@
 -- A fresh table, by the tests in their order.
 use Prim.Native.Nat.{ℕ, _≤_}
-use mathlib.Core.Path.{_≡_, ap, ap₂, _∙_}
-use mathlib.Core.Bool.{Bool, true, false, not, cond}
+use mathlib.Core.Path.{_≡_, refl, sym, ap, ap₂, _∙_}
+use mathlib.Core.Bool.{Bool, true, false, not}
 use mathlib.Core.List.{List}
 use native.Mathlib.Omega.{arith}
 use borrow.Author.Tests.{eq-eqb, ne-eqb, le-leb}
@@ -12,7 +12,28 @@ use Rattle.image.specs.Fresh.{freshImage, freshTable}
 use Rattle.image.specs.Check.{badStall}
 use Rattle.image.proofs.Stages.{in-range, length-range}
 use Rattle.image.proofs.FreshTable.{fresh-front, length-table}
-use Rattle.head.specs.Calls.{Outcome, refused, accepted, freshCall}
+use Rattle.head.specs.Calls.{Outcome, refused, accepted, freshInto, freshCall}
+
+-- By what the tests find: answered 0, it is the image; else the buffer stays
+
+pub into-zero : (x y z : Bool) (image s : List ℕ) → freshInto x y z image s .answer ≡ 0 → freshInto x y z image s .image ≡ image
+into-zero true y z image s e = absurd (omega arith)
+into-zero false true z image s e = absurd (omega arith)
+into-zero false false true image s e = absurd (omega arith)
+into-zero false false false image s e = refl
+
+pub into-refused : (x y z : Bool) (image s : List ℕ) → (freshInto x y z image s .answer ≡ 0 → ⊥) → freshInto x y z image s .image ≡ s
+into-refused true y z image s f = refl
+into-refused false true z image s f = refl
+into-refused false false true image s f = refl
+into-refused false false false image s f = absurd (f refl)
+
+-- and neither counts for the answer
+pub into-same : (x y z : Bool) (image s other u : List ℕ) → freshInto x y z image s .answer ≡ freshInto x y z other u .answer
+into-same true y z image s other u = refl
+into-same false true z image s other u = refl
+into-same false false true image s other u = refl
+into-same false false false image s other u = refl
 
 -- an image's length, by the test of N
 lengths : (n : ℕ) → not (isCount n) ≡ false → (18 ≤ lengthOf n) × (lengthOf n ≤ longest)
@@ -53,12 +74,6 @@ module _ (s : List ℕ) (n stall : ℕ) where
   -- .. and whoever is answered 0 holds the fresh image
   pub fresh-zero : (out : List ℕ) → _≡_ {A = Outcome} (record { answer = 0; image = out }) (freshCall s n stall) → out ≡ freshImage n stall
   unfolding freshCall
-  fresh-zero out = go (not (isCount n)) (not (eqb (length s) (lengthOf n))) (badStall n stall)
-    where
-      go : (x y z : Bool)
-          → _≡_ {A = Outcome} (record { answer = 0; image = out }) (cond x (refused 1 s) (cond y (refused 2 s) (cond z (refused 3 s) (accepted (freshImage n stall)))))
-          → out ≡ freshImage n stall
-      go true y z e = let d : _≡_ {A = ℕ} 0 1 = ap (λ o. o .answer) e in absurd (omega arith)
-      go false true z e = let d : _≡_ {A = ℕ} 0 2 = ap (λ o. o .answer) e in absurd (omega arith)
-      go false false true e = let d : _≡_ {A = ℕ} 0 3 = ap (λ o. o .answer) e in absurd (omega arith)
-      go false false false e = ap (λ o. o .image) e
+  fresh-zero out e =
+      ap (λ o. o .image) e
+      ∙ into-zero (not (isCount n)) (not (eqb (length s) (lengthOf n))) (badStall n stall) (freshImage n stall) s (sym (ap (λ o. o .answer) e))

@@ -1,6 +1,6 @@
 -- The calls on one image: what comes back, and what every lent byte holds afterwards, refused or not.
 use Prim.Native.Nat.{ℕ, _/_, _%_}
-use mathlib.Core.Bool.{not, cond}
+use mathlib.Core.Bool.{Bool, not, cond}
 use mathlib.Core.List.{List}
 use lib.Dec.{ltb, eqb}
 use lib.ListN.{length, set}
@@ -22,13 +22,12 @@ refused number s = record { answer = number; image = s }
 abbrev pub accepted : List ℕ → Outcome
 accepted s = record { answer = 0; image = s }
 
--- "A fresh table tries 1 for N, 2 for the buffer, 3."
+-- "A fresh table tries 1 for N, 2 for the buffer, 3.": by what these tests find, the image into a buffer
+abbrev pub freshInto : Bool → Bool → Bool → List ℕ → List ℕ → Outcome
+freshInto count long stall image s = cond count (refused 1 s) (cond long (refused 2 s) (cond stall (refused 3 s) (accepted image)))
+
 unfoldable pub freshCall : List ℕ → ℕ → ℕ → Outcome
-freshCall s n stall =
-    cond (not (isCount n)) (refused 1 s)
-    (cond (not (eqb (length s) (lengthOf n))) (refused 2 s)
-    (cond (badStall n stall) (refused 3 s)
-    (accepted (freshImage n stall))))
+freshCall s n stall = freshInto (not (isCount n)) (not (eqb (length s) (lengthOf n))) (badStall n stall) (freshImage n stall) s
 
 -- the current yield in two bytes, high first
 abbrev pub withCurrent : List ℕ → ℕ → List ℕ

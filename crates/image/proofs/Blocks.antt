@@ -5,7 +5,7 @@ use mathlib.Core.List.{List, [], _++_, append-assoc, append-nil}
 use native.Mathlib.Omega.{arith}
 use native.Mathlib.Numerals.{add-one}
 use lib.ListN.{length, take, drop, length-append, take-append-drop}
-use lib.Seq.{paste, length-paste, length-take-le}
+use lib.Seq.{paste, length-paste, length-take-le, take-all}
 use Rattle.image.specs.Stalls.{each}
 use Rattle.image.proofs.Overwrite.{behind}
 
@@ -44,6 +44,13 @@ pasted-next d l x y b w k at f wide fits room more stands so-far same is = (
   is ∙ ap (λ j. paste l j x w) stands ∙ blocks-next d l x b w k f wide (omega arith) so-far more,
   ap length is ∙ length-paste l at x w (omega arith) room ∙ same,
 )
+
+-- and where it is written as it is
+pub written-next : (d l y : List ℕ) (b w k at : ℕ) (f : ℕ → List ℕ) → length (each k f) ≡ k * w → length (f (suc k)) ≡ w → at + w ≤ length d
+    → at ≡ b + k * w → l ≡ blocks d b w f k → length l ≡ length d → y ≡ take at l ++ f (suc k) ++ drop (at + w) l → (y ≡ blocks d b w f (k + 1)) × (length y ≡ length d)
+written-next d l y b w k at f wide one fits stands so-far same is =
+    let whole : take w (f (suc k)) ≡ f (suc k) = take-all w (f (suc k)) (omega arith) in
+    pasted-next d l (f (suc k)) y b w k at f wide fits (omega arith) whole stands so-far same (is ∙ ap (λ x. take at l ++ x ++ drop (at + w) l) (sym whole))
 
 pub blocks-end : (d l : List ℕ) (b w : ℕ) (f : ℕ → List ℕ) (k n : ℕ) → k ≤ n → n ≤ k → l ≡ blocks d b w f k → l ≡ take b d ++ each n f ++ drop (b + n * w) d
 unfolding blocks

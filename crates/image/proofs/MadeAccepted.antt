@@ -12,7 +12,7 @@ use Rattle.image.specs.Encode.{Table, nameBytes, encode, tableOf}
 use Rattle.image.specs.Made.{NameIn, Made}
 use Rattle.image.specs.declared.Name.{Name}
 use Rattle.image.specs.declared.Name.the-variants.{Never, With}
-use Rattle.image.proofs.Encoding.{Proper, length-encode, count-encode, stall-encode, current-encode, partner-encode, label-encode, name-encode, yield-encode, mark-encode}
+use Rattle.image.proofs.Encoding.{Proper, length-encode, count-encode, stall-encode, current-encode, partner-encode, label-encode, name-encode, yield-encode, mark-encode, encode-agree}
 use Rattle.image.proofs.Accepted.{Accepted}
 use Rattle.image.proofs.Passing.{passing}
 use Rattle.image.proofs.NameBytes.{never, name-in, same-bytes}
@@ -95,3 +95,8 @@ module _ (n own : ℕ) (t : Table) (n-from : 2 ≤ n) (n-to : n ≤ largest) (ow
         names = names;
         marks = marks;
       }
+
+  -- and is the image of what it says
+  pub encode-again : encode n own (tableOf (encode n own t) n) ≡ encode n own t
+  unfolding tableOf
+  encode-again = encode-agree n own (tableOf (encode n own t) n) t (current-encode n own t) read-name (yield-encode n own t) read-mark

@@ -4,3 +4,4 @@ pub mod MeetingWritten
 pub mod Together
 pub mod MeetingCalls
 pub mod AfterLaws
+pub mod Outcomes

@@ -16,23 +16,45 @@ pub record Loan : Type 0 where
 abbrev pub lent : Loan → List ℕ → RefT (List ℕ)
 lent loan bytes = record { ptr = loan .place; name = loan .name; now = bytes }
 
--- a call of wilbryn_fresh that is lent this buffer, answers this and leaves this image
-pub record FreshCall (buffer : List ℕ) (n stall answer : ℕ) (image : List ℕ) : Type 0 where
+-- what the three calls are lent: a run and two numbers, a run and a number, three runs
+abbrev pub FreshLent : Type 0
+FreshLent = RefT (List ℕ) × (ℕ × (ℕ × Unit {0}))
+
+abbrev pub MilkingLent : Type 0
+MilkingLent = RefT (List ℕ) × (ℕ × Unit {0})
+
+abbrev pub MeetingLent : Type 0
+MeetingLent = RefT (List ℕ) × (RefT (List ℕ) × (RefT (List ℕ) × Unit {0}))
+
+-- Each call by what its contract says of what it was lent, what it answered and what it left.
+
+-- it is lent this buffer, answers this and leaves this image
+pub record FreshBy (Learnt : Lfts 1 → FreshLent → ℕ → FreshLent → Type 0) (buffer : List ℕ) (n stall answer : ℕ) (image : List ℕ) : Type 0 where
   pub lifetimes : Lfts 1
   pub loan : Loan
-  pub learnt : fresh.Learnt lifetimes (lent loan buffer, (n, (stall, tt))) answer (lent loan image, (n, (stall, tt)))
+  pub learnt : Learnt lifetimes (lent loan buffer, (n, (stall, tt))) answer (lent loan image, (n, (stall, tt)))
 
--- a call of wilbryn_milking that is lent this image and leaves that one
-pub record MilkingCall (image : List ℕ) (yield answer : ℕ) (image′ : List ℕ) : Type 0 where
+-- it is lent this image and leaves that one
+pub record MilkingBy (Learnt : Lfts 1 → MilkingLent → ℕ → MilkingLent → Type 0) (image : List ℕ) (yield answer : ℕ) (image′ : List ℕ) : Type 0 where
   pub lifetimes : Lfts 1
   pub loan : Loan
-  pub learnt : milking.Learnt lifetimes (lent loan image, (yield, tt)) answer (lent loan image′, (yield, tt))
+  pub learnt : Learnt lifetimes (lent loan image, (yield, tt)) answer (lent loan image′, (yield, tt))
 
--- a call of wilbryn_meeting that is lent two images and a buffer, and leaves these three
-pub record MeetingCall (first second buffer : List ℕ) (answer : ℕ) (first′ second′ buffer′ : List ℕ) : Type 0 where
+-- it is lent two images and a buffer, and leaves these three
+pub record MeetingBy (Learnt : Lfts 3 → MeetingLent → ℕ → MeetingLent → Type 0) (first second buffer : List ℕ) (answer : ℕ) (first′ second′ buffer′ : List ℕ) : Type 0 where
   pub lifetimes : Lfts 3
   pub one : Loan
   pub other : Loan
   pub third : Loan
-  pub learnt : meeting.Learnt lifetimes (lent one first, (lent other second, (lent third buffer, tt))) answer
+  pub learnt : Learnt lifetimes (lent one first, (lent other second, (lent third buffer, tt))) answer
       (lent one first′, (lent other second′, (lent third buffer′, tt)))
+
+-- a call of wilbryn_fresh, of wilbryn_milking and of wilbryn_meeting
+abbrev pub FreshCall : List ℕ → ℕ → ℕ → ℕ → List ℕ → Type 0
+FreshCall = FreshBy fresh.Learnt
+
+abbrev pub MilkingCall : List ℕ → ℕ → ℕ → List ℕ → Type 0
+MilkingCall = MilkingBy milking.Learnt
+
+abbrev pub MeetingCall : List ℕ → List ℕ → List ℕ → ℕ → List ℕ → List ℕ → List ℕ → Type 0
+MeetingCall = MeetingBy meeting.Learnt

@@ -7,7 +7,7 @@ use Rattle.head.proofs.wilbryn_milking.Statement as milked
 use Rattle.head.proofs.wilbryn_meeting.Statement as met
 use Rattle.image.specs.Layout.{largest}
 use Rattle.parlour.specs.Item.{Item, milking, meeting}
-use Rattle.parlour.specs.Run.{Images, Called, Run}
+use Rattle.parlour.specs.Run.{Images, Called, Calls, RunBy, plainCalls, Run}
 use Rattle.parlour.specs.Claim.{items, Claim}
 use Rattle.parlour.specs.Verdict.{VerdictsAreBest}
 use Rattle.parlour.specs.NotMilked.{NotMilked}
@@ -18,11 +18,11 @@ Items n [] = Unit {0}
 Items n (milking stall yield ∷ earlier) = (1 ≤ stall) × (stall ≤ n) × Items n earlier
 Items n (meeting p q buffer ∷ earlier) = (1 ≤ p) × (p ≤ n) × (1 ≤ q) × (q ≤ n) × (p ≡ q → ⊥) × Items n earlier
 
--- a list of calls that makes these items
-pub record RunOf (n : ℕ) (list : List Item) : Type 0 where
+-- a list of such calls that makes these items
+pub record RunOf (by : Calls) (n : ℕ) (list : List Item) : Type 0 where
   pub calls : List Called
   pub images : Images
-  pub run : Run n calls images
+  pub run : RunBy by n calls images
   pub makes : items calls ≡ list
 
 pub record Theory (n : ℕ) : Type 0 where
@@ -33,7 +33,7 @@ pub record Theory (n : ℕ) : Type 0 where
   -- Request 2026-01: ffff "means not milked".
   pub not-milked : (calls : List Called) (images : Images) → Run n calls images → NotMilked n calls images
   -- Every list has its calls.
-  pub runs-exist : 2 ≤ n → n ≤ largest → (list : List Item) → Items n list → RunOf n list
+  pub runs-exist : 2 ≤ n → n ≤ largest → (list : List Item) → Items n list → RunOf plainCalls n list
 
 -- The three functions meet their contracts: each call is safe, returns, and what was read of its contract holds.
 pub record Returns : Type 2 where

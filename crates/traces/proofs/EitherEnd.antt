@@ -12,7 +12,7 @@ use Rattle.causality.specs.Meetings.{Joins}
 use Rattle.causality.proofs.Newer.{Newer, by-first, by-second, by-neither, newer-is}
 use Rattle.image.specs.Encode.{Table, tableOf}
 use Rattle.merge.specs.Call.{MeetingOutcome, acceptedMeeting}
-use Rattle.parlour.specs.Run.{Images, Called, Run}
+use Rattle.parlour.specs.Run.{Images, Called, plainCalls, Run}
 use Rattle.parlour.specs.Table.{nameIn}
 use Rattle.parlour.proofs.Says.{Says, own-names}
 use Rattle.parlour.proofs.Verdicts.{verdict-best}
@@ -59,7 +59,7 @@ accepted-turned s u b c n p q differ w =
 pub either-end : {n : ℕ} {calls : List Called} {images : Images} → Run n calls images
     → (p q : ℕ) → 1 ≤ p → p ≤ n → 1 ≤ q → q ≤ n → (p ≡ q → ⊥)
     → (b c : List ℕ) → length b ≡ n → length c ≡ n
-    → (one other : MeetingOutcome) → Gives (images p) (images q) b one → Gives (images q) (images p) c other
+    → (one other : MeetingOutcome) → Gives plainCalls (images p) (images q) b one → Gives plainCalls (images q) (images p) c other
     → Turned one other
 either-end {n} {images = images} run p q i j k l differ b c long-b long-c one other x y =
     let w = run-kept run in

@@ -1,10 +1,10 @@
--- The lemmas of `traces`.
+-- The lemmas of `traces`. What crates above cite is `pub mod`.
 mod TurnedTables
 mod EitherEnd
 mod TakingPart
 mod Counted
-mod State
-mod Runs
+pub mod State
+pub mod Runs
 mod Trades
 mod Naming
 mod OwnOrder

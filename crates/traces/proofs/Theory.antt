@@ -1,12 +1,13 @@
--- The theorems of `specs/Theory.antt` hold for every n.
+-- The theorems of `specs/Theory.antt` hold of the calls on plain images, for every n.
 use Prim.Native.Nat.{ℕ}
+use Rattle.parlour.specs.Run.{plainCalls}
 use Rattle.traces.specs.Theory.{Theory}
 use Rattle.traces.proofs.EitherEnd.{either-end}
 use Rattle.traces.proofs.TakingPart.{four-heads}
 use Rattle.traces.proofs.Trades.{trade-independent}
 use Rattle.traces.proofs.OwnOrder.{own-order}
 
-pub theory : (n : ℕ) → Theory n
+pub theory : (n : ℕ) → Theory plainCalls n
 theory n =
     record {
       either-end = λ calls images. either-end;

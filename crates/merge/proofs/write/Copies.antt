@@ -1,6 +1,6 @@
 -- Loops that copy bytes one by one.
-use Prim.Native.Nat.{ℕ, _+_, _*_, _<_}
-use mathlib.Core.Path.{_≡_, ap, _∙_}
+use Prim.Native.Nat.{ℕ, _+_, _*_, _≤_, _<_}
+use mathlib.Core.Path.{_≡_, sym, ap, _∙_}
 use mathlib.Core.List.{List, _++_}
 use native.Mathlib.Omega.{arith}
 use native.Mathlib.Nat.{zero-add}
@@ -14,6 +14,16 @@ use Rattle.merge.specs.Body.{padded}
 -- one byte more at a place
 pub copy-next : (d t l : List ℕ) (at i : ℕ) → at + i < length d → i < length t → l ≡ paste d at t i → set l (at + i) (getD t i 0) ≡ paste d at t (i + 1)
 copy-next d t l at i a b e = rw (add-one, e) (paste-suc d at t i 0 a b)
+
+-- one byte more of what stands in s from a place on
+pub copied-next : (d s l : List ℕ) (at from i : ℕ) → at + i < length d → from + i < length s → l ≡ paste d at (drop from s) i
+    → set l (at + i) (getD s (from + i) 0) ≡ paste d at (drop from s) (i + 1)
+copied-next d s l at from i a b e =
+    ap (set l (at + i)) (sym (getD-drop from s i 0)) ∙ copy-next d (drop from s) l at i a (omega (arith, length-drop from s)) e
+
+-- all of them
+pub pasted-end : (d t l : List ℕ) (at count i : ℕ) → count ≤ i → i ≤ count → l ≡ paste d at t i → l ≡ paste d at t count
+pasted-end d t l at count i a b e = let j : i ≡ count = omega arith in e ∙ ap (paste d at t) j
 
 -- one byte more of what stands in s from a place on, at the front
 pub front-next : (d s l : List ℕ) (at i : ℕ) → i < length d → at + i < length s → l ≡ take i (drop at s) ++ drop i d

@@ -5,13 +5,13 @@ use mathlib.Core.List.{List, [], _++_, append-nil}
 use native.Mathlib.Omega.{arith}
 use native.Mathlib.Nat.{mul-le-mul-right}
 use lib.ListN.{length, getD, take, drop}
-use lib.Seq.{paste, length-take-le, take-all, drop-length}
+use lib.Seq.{paste, length-take-le, drop-length}
 use Rattle.image.specs.Layout.{orderWidth, orderPlace, ordersPlace, yieldsPlace, longestRow, yieldsFrom}
 use Rattle.image.specs.Stalls.{each}
 use Rattle.image.specs.Frame.{Sized}
 use Rattle.image.specs.Encode.{orderBytes}
 use Rattle.image.proofs.Has.{length-each-to, length-each}
-use Rattle.image.proofs.Blocks.{blocks, pasted-next, blocks-end}
+use Rattle.image.proofs.Blocks.{blocks, pasted-next, written-next, blocks-end}
 use Rattle.image.proofs.OrderEntry.{length-order, entry-within}
 use Rattle.image.proofs.Places.{yields-from}
 use Rattle.merge.specs.Body.{orderIn, rowIn}
@@ -46,23 +46,16 @@ order-small n orders c small l = let e : suc c - 1 ≡ c = omega arith in rw e a
 
 -- order entries by value, written one after the other
 module _ (d : List ℕ) (n : ℕ) (orders : List ℕ) (sized : Sized d n) (c at : ℕ) (l : c < n) (stands : at ≡ orderPlace n (c + 1)) where
-  abbrev entry : List ℕ
-  entry = orderBytes n (getD orders c 0)
-
-  entry-whole : take (orderWidth n) entry ≡ entry
-  entry-whole = take-all (orderWidth n) entry (omega (arith, length-order n (getD orders c 0)))
-
   pub orders-next : (x y : List ℕ) → x ≡ blocks d (ordersPlace n) (orderWidth n) (orderIn orders n) c → length x ≡ length d
       → y ≡ take at x ++ orderBytes n (getD orders c 0) ++ drop (at + orderWidth n) x
       → (y ≡ blocks d (ordersPlace n) (orderWidth n) (orderIn orders n) (c + 1)) × (length y ≡ length d)
   orders-next x y e g h =
       let i : c ≡ suc c - 1 = omega arith in
       let j : c + 1 - 1 ≡ c = omega arith in
-      pasted-next d x entry y (ordersPlace n) (orderWidth n) c at (orderIn orders n)
-      (length-each (orderWidth n) (orderIn orders n) (λ r. length-order n (getD orders (r - 1) 0)) c)
-      (entry-within n n c (sized .long) refl stands l) (omega (arith, length-order n (getD orders c 0)))
-      (entry-whole ∙ ap (λ k. orderBytes n (getD orders k 0)) i) (stands ∙ ap (λ k. ordersPlace n + k * orderWidth n) j) e g
-      (h ∙ ap (λ t. take at x ++ t ++ drop (at + orderWidth n) x) (sym entry-whole))
+      let wide : (r : ℕ) → length (orderIn orders n r) ≡ orderWidth n = λ r. length-order n (getD orders (r - 1) 0) in
+      written-next d x y (ordersPlace n) (orderWidth n) c at (orderIn orders n) (length-each (orderWidth n) (orderIn orders n) wide c) (wide (suc c))
+      (entry-within n n c (sized .long) refl stands l) (stands ∙ ap (λ k. ordersPlace n + k * orderWidth n) j) e g
+      (h ∙ ap (λ k. take at x ++ orderBytes n (getD orders k 0) ++ drop (at + orderWidth n) x) i)
 
 -- all of them, to the end of the image
 pub orders-end : (d l : List ℕ) (n : ℕ) (orders : List ℕ) (c : ℕ) → Sized d n → c ≤ n → n ≤ c → l ≡ blocks d (ordersPlace n) (orderWidth n) (orderIn orders n) c

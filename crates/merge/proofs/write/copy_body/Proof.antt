@@ -1,11 +1,11 @@
 -- What another image holds behind its first four bytes.
-use Prim.Native.Nat.{ℕ, _+_, _-_, _≤_, _<_}
-use mathlib.Core.Path.{_≡_, refl, sym, ap, _∙_}
+use Prim.Native.Nat.{ℕ, _+_, _-_, _≤_}
+use mathlib.Core.Path.{_≡_, refl, ap, _∙_}
 use mathlib.Core.List.{List, _++_, append-nil}
 use native.Mathlib.Omega.{arith}
-use lib.ListN.{length, take, drop, set, getD, length-set, length-drop}
-use lib.Seq.{paste, paste-zero, getD-drop, take-all, drop-length}
-use Rattle.merge.proofs.write.Copies.{copy-next}
+use lib.ListN.{length, take, drop, length-set, length-drop}
+use lib.Seq.{paste, paste-zero, take-all, drop-length}
+use Rattle.merge.proofs.write.Copies.{copied-next}
 use Rattle.merge.proofs.write.copy_body.Statement.{statement}
 use Rattle.merge.proofs.write.copy_body.Tie as tie
 
@@ -14,11 +14,6 @@ Inv-loop image₀ from rest i₀ image i = (i ≤ rest) × (image ≡ paste imag
 
 abbrev μ-loop : tie.MeasureT-loop
 μ-loop image₀ from rest i₀ image i = rest - i
-
--- one byte more
-next : (d s l : List ℕ) (i : ℕ) → 4 + i < length d → length d ≡ length s → l ≡ paste d 4 (drop 4 s) i → set l (4 + i) (getD s (4 + i) 0) ≡ paste d 4 (drop 4 s) (i + 1)
-next d s l i a e h =
-    ap (set l (4 + i)) (sym (getD-drop 4 s i 0)) ∙ copy-next d (drop 4 s) l 4 i a (omega (arith, length-drop 4 s)) h
 
 -- all of them
 whole : (d s l : List ℕ) (i : ℕ) → 4 ≤ length d → length d ≡ length s → i ≡ length d - 4 → l ≡ paste d 4 (drop 4 s) i → l ≡ take 4 d ++ drop 4 s
@@ -43,6 +38,6 @@ copy-body-spec =
     (λ c. omega arith)
     (λ c. omega arith)
     (λ c. omega arith)
-    (λ c. (omega arith, next (c .before .before .before .args .image .now) (c .before .before .before .args .from .now) (c .before .before .loop .image) (c .before .before .loop .i) (omega arith) (c .before .before .before .pre .1) (c .before .before .loop .inv .1), simp length-set (c .before .before .loop .inv .2)))
+    (λ c. (omega arith, copied-next (c .before .before .before .args .image .now) (c .before .before .before .args .from .now) (c .before .before .loop .image) 4 4 (c .before .before .loop .i) (omega arith) (omega arith) (c .before .before .loop .inv .1), simp length-set (c .before .before .loop .inv .2)))
     (λ c. c .before .loop .inv .2)
     (λ c. whole (c .before .before .args .image .now) (c .before .before .args .from .now) (c .before .loop .image) (c .before .loop .i) (c .before .before .pre .0) (c .before .before .pre .1) (omega arith) (c .before .loop .inv .1)))

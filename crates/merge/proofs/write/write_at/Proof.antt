@@ -1,11 +1,10 @@
 -- The first bytes of a row at a place.
-use Prim.Native.Nat.{ℕ, _-_, _≤_}
-use mathlib.Core.Path.{_≡_, refl, ap, _∙_}
-use mathlib.Core.List.{List}
+use Prim.Native.Nat.{_-_, _≤_}
+use mathlib.Core.Path.{_≡_, refl}
 use native.Mathlib.Omega.{arith}
 use lib.ListN.{length, length-set}
 use lib.Seq.{paste, paste-zero}
-use Rattle.merge.proofs.write.Copies.{copy-next}
+use Rattle.merge.proofs.write.Copies.{copy-next, pasted-end}
 use Rattle.merge.proofs.write.write_at.Statement.{statement}
 use Rattle.merge.proofs.write.write_at.Tie as tie
 
@@ -14,10 +13,6 @@ Inv-loop image₀ at count bytes i₀ image i = (i ≤ count) × (image ≡ past
 
 abbrev μ-loop : tie.MeasureT-loop
 μ-loop image₀ at count bytes i₀ image i = count - i
-
--- all of them
-whole : (d t l : List ℕ) (at count i : ℕ) → count ≤ i → i ≤ count → l ≡ paste d at t i → l ≡ paste d at t count
-whole d t l at count i a b e = let j : i ≡ count = omega arith in e ∙ ap (paste d at t) j
 
 pub write-at-spec : {M : Type 1} → statement M
 write-at-spec =
@@ -33,4 +28,4 @@ write-at-spec =
     (λ c. omega arith)
     (λ c. (omega arith, copy-next (c .before .before .args .image .now) (c .before .before .args .t4) (c .before .loop .image) (c .before .before .args .at) (c .before .loop .i) (omega arith) (omega arith) (c .before .loop .inv .1), simp length-set (c .before .loop .inv .2)))
     (λ c. c .before .loop .inv .2)
-    (λ c. whole (c .before .before .args .image .now) (c .before .before .args .t4) (c .before .loop .image) (c .before .before .args .at) (c .before .before .args .count) (c .before .loop .i) (omega arith) (omega arith) (c .before .loop .inv .1)))
+    (λ c. pasted-end (c .before .before .args .image .now) (c .before .before .args .t4) (c .before .loop .image) (c .before .before .args .at) (c .before .before .args .count) (c .before .loop .i) (omega arith) (omega arith) (c .before .loop .inv .1)))
