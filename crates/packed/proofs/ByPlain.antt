@@ -1,0 +1,86 @@
+-- The calls on packed images by way of the plain calls on what is handed to these.
+use Prim.Native.Nat.{ℕ, _≤_, _<_}
+use mathlib.Core.Path.{_≡_, refl, sym, ap, ap₂, subst, _∙_}
+use mathlib.Core.List.{List}
+use lib.ListN.{length, getD}
+use Rattle.image.specs.Frame.{Sized}
+use Rattle.image.specs.declared.Checked.{Checked}
+use Rattle.image.specs.declared.Checked.the-variants.{Good, Refused}
+use Rattle.image.proofs.Accepted.{Accepted}
+use Rattle.merge.specs.Call.{MeetingOutcome, meetingCall}
+use Rattle.merge.proofs.meeting.Outcomes.{kept}
+use Rattle.head.specs.Heard.{HeardFrom, HeardCall}
+use Rattle.packed.specs.Form.{packedImageLength, packed, unpacked}
+use Rattle.packed.specs.Check.{packedChecked}
+use Rattle.packed.specs.Calls.{PackedHeardCall, packedMeetingCall}
+use Rattle.packed.specs.Bytes.{packedOf, plainOf}
+use Rattle.packed.proofs.Small.{Small}
+use Rattle.packed.proofs.Forms.{packed-is}
+use Rattle.packed.proofs.Checks.{checked-unpacked, checked-plain, good-packed}
+use Rattle.packed.proofs.MetAlike.{Alike, met-alike, After, meeting-after}
+use Rattle.packed.proofs.MetPacked.{after-taken, after-kept}
+
+-- The heard list
+
+pub heard-handed : {s buffer out : List ℕ} {answer : ℕ} → HeardCall (plainOf s) buffer answer out → PackedHeardCall s buffer answer out
+heard-handed {s} {buffer} {out} {answer} w =
+    record { heard = go (packedChecked s) refl (subst (HeardFrom (plainOf s) buffer answer out) (checked-plain s) (w .heard)) }
+  where
+    go : (x : Checked) → packedChecked s ≡ x → HeardFrom (plainOf s) buffer answer out x → HeardFrom (unpacked s) buffer answer out x
+    go (Good h) e v = subst (λ l. HeardFrom l buffer answer out (Good h)) (good-packed s e .plain) v
+    go (Refused number) e v = v
+
+-- A meeting: the plain one of what is handed leaves x, y and v
+
+module _ (s u buffer x y v : List ℕ) (r : ℕ)
+    (met : _≡_ {A = MeetingOutcome} (record { answer = r; first = x; second = y; verdicts = v }) (meetingCall (plainOf s) (plainOf u) buffer)) where
+  abbrev handed : MeetingOutcome
+  handed = meetingCall (plainOf s) (plainOf u) buffer
+
+  answers : r ≡ handed .answer
+  answers = ap (λ o. o .answer) met
+
+  -- as that of the unpacked forms
+  alike : Alike handed (meetingCall (unpacked s) (unpacked u) buffer)
+  alike =
+      met-alike (plainOf s) (unpacked s) (plainOf u) (unpacked u) buffer
+      (checked-plain s ∙ sym (checked-unpacked s)) (checked-plain u ∙ sym (checked-unpacked u))
+      (λ h e. good-packed s (sym (checked-plain s) ∙ e) .plain) (λ g e. good-packed u (sym (checked-plain u) ∙ e) .plain)
+
+  pub met-refused : 256 ≤ r → _≡_ {A = MeetingOutcome} (record { answer = r; first = s; second = u; verdicts = v }) (packedMeetingCall s u buffer)
+  met-refused l =
+      let same = answers ∙ alike .0 in
+      let stays = ap (λ o. o .verdicts) met ∙ kept (plainOf s) (plainOf u) buffer (subst (λ k. 256 ≤ k) answers l) .verdicts-stay in
+      ap₂ (λ k b. record { answer = k; first = s; second = u; verdicts = b }) same stays ∙ sym (after-kept s u buffer _ (subst (λ k. 256 ≤ k) same l))
+
+  module _ (l : r < 256) where
+    abbrev taken : After (plainOf s) (plainOf u) handed
+    taken = meeting-after (plainOf s) (plainOf u) buffer (subst (λ k. k < 256) answers l)
+
+    first-good : Accepted x (taken .n) (taken .p)
+    first-good = subst (λ z. Accepted z (taken .n) (taken .p)) (sym (ap (λ o. o .first) met)) (taken .first-after)
+
+    second-good : Accepted y (taken .n) (taken .q)
+    second-good = subst (λ z. Accepted z (taken .n) (taken .q)) (sym (ap (λ o. o .second) met)) (taken .second-after)
+
+    count : taken .n ≡ getD x 0 0
+    count = sym (first-good .count)
+
+    pub may-pack : Sized x (getD x 0 0) × Sized y (getD x 0 0) × (length s ≡ packedImageLength (getD x 0 0)) × (length u ≡ packedImageLength (getD x 0 0))
+    may-pack =
+        let f = first-good .frame in
+        let g = second-good .frame in (
+          subst (Sized x) count (record { n-from = f .n-from; n-to = f .n-to; long = f .long }),
+          subst (Sized y) count (record { n-from = g .n-from; n-to = g .n-to; long = g .long }),
+          good-packed s (sym (checked-plain s) ∙ taken .first-passes) .long ∙ ap packedImageLength count,
+          good-packed u (sym (checked-plain u) ∙ taken .second-passes) .long ∙ ap packedImageLength count,
+        )
+
+    pub met-packed : Small x → Small y → (z w : List ℕ) → z ≡ packedOf (getD x 0 0) x → w ≡ packedOf (getD x 0 0) y
+        → _≡_ {A = MeetingOutcome} (record { answer = r; first = z; second = w; verdicts = v }) (packedMeetingCall s u buffer)
+    met-packed a b z w z-is w-is =
+        let same = met ∙ alike .2 (subst (λ k. k < 256) answers l) in
+        let number = ap (λ o. o .answer) same in
+        let first = z-is ∙ ap (λ n. packedOf n x) (sym count) ∙ packed-is first-good a ∙ ap (λ o. packed (o .first)) same in
+        let second = w-is ∙ ap (λ n. packedOf n y) (sym count) ∙ packed-is second-good b ∙ ap (λ o. packed (o .second)) same in
+        rw (after-taken s u buffer (meetingCall (unpacked s) (unpacked u) buffer) (subst (λ k. k < 256) number l), number, first, second, ap (λ o. o .verdicts) same)

@@ -1,0 +1,73 @@
+-- The packed forms of the listing's image and of fresh images, and what packed images are refused with, by evaluation.
+use Prim.Native.Nat.{ℕ}
+use mathlib.Core.Path.{_≡_, refl}
+use mathlib.Core.List.{List, [], _∷_, _++_, map}
+use lib.ListN.{replicate}
+use Rattle.image.specs.Encode.{nothing}
+use Rattle.image.specs.Fresh.{freshImage}
+use Rattle.image.specs.Check.{numberOf}
+use Rattle.image.specs.Examples as Plain
+use Rattle.image.specs.Examples.{listing, notMilked, withLabel}
+use Rattle.packed.specs.Form.{packedLength, nameByte, packedImage, packed, nameOf, unpackedRow, unpackedOf, unpacked}
+use Rattle.packed.specs.Check.{badPackedLength, packedChecked}
+
+-- whoever unfolds this unfolds all that a packed image is made, read and checked with
+unfoldable pub evaluated : Unit {0}
+unfolding Plain.evaluated nameByte packedImage packed nameOf unpackedRow unpackedOf badPackedLength packedChecked
+evaluated = tt
+
+-- "The heads' memory is to hold 92 bytes, not 156."
+lengths : map packedLength (0 ∷ 1 ∷ 2 ∷ 3 ∷ 4 ∷ 5 ∷ 6 ∷ 7 ∷ 8 ∷ 9 ∷ []) ≡ 0 ∷ 0 ∷ 14 ∷ 22 ∷ 32 ∷ 44 ∷ 58 ∷ 74 ∷ 92 ∷ 0 ∷ []
+lengths = refl
+
+-- the listing's image: 0x20 is partner 2, 0x00 partner 1 and 0x40 partner 3, all with label 0; but in column 3 of row 1 the last is none
+abbrev pub packedListing : List ℕ
+packedListing =
+    3 ∷ 3 ∷ 0xff ∷ 0xff
+    ∷ 0x20 ∷ 0x00 ∷ 0x40
+    ∷ 0x20 ∷ 0x40 ∷ 0x20
+    ∷ 0x20 ∷ 0x40 ∷ 0x20
+    ∷ 0 ∷ 0x12 ∷ 0xff ∷ 0xff ∷ 0xff ∷ 0xff
+    ∷ 7 ∷ 6 ∷ 6 ∷ []
+
+listing-examples : (packed listing ≡ packedListing) × (unpacked packedListing ≡ listing)
+unfolding evaluated
+listing-examples = (refl, refl)
+
+-- a fresh head: no name in any column
+fresh-examples : (packedImage 2 1 nothing ≡ (2 ∷ 1 ∷ notMilked 1) ++ (0x00 ∷ 0x20 ∷ 0x00 ∷ 0x20 ∷ []) ++ notMilked 2 ++ replicate 2 0)
+    × (unpacked (packedImage 3 2 nothing) ≡ freshImage 3 2)
+unfolding evaluated
+fresh-examples = (refl, refl)
+
+number : List ℕ → ℕ
+number s = numberOf (packedChecked s)
+
+-- head 1 of 2 that was not milked: the name in row 1, column 1, and the order byte of stall 1
+abbrev pub withName : ℕ → ℕ → List ℕ
+withName name order = (2 ∷ 1 ∷ notMilked 1) ++ (name ∷ 0x20 ∷ 0x00 ∷ 0x20 ∷ []) ++ notMilked 2 ++ (order ∷ 0 ∷ [])
+
+-- 1 twice; 2, also for the length of a plain image; 3; 4; 6, and 0 for the same without the mark
+refused-examples : map number
+    ([]
+    ∷ (9 ∷ [])
+    ∷ (2 ∷ 1 ∷ [])
+    ∷ freshImage 2 1
+    ∷ (2 ∷ 3 ∷ replicate 12 0)
+    ∷ (2 ∷ 1 ∷ 0x03 ∷ 0xe8 ∷ replicate 10 0)
+    ∷ withName 0x00 1
+    ∷ withName 0x00 0
+    ∷ [])
+    ≡ 1 ∷ 1 ∷ 2 ∷ 2 ∷ 3 ∷ 4 ∷ 6 ∷ 0 ∷ []
+unfolding evaluated number
+refused-examples = refl
+
+-- 5: "own number with another label", partner 1 in column 1 with labels 1 and 31; partner 3 of 2 stalls; and before 6
+name-examples : map number (withName 0x01 0 ∷ withName 0x1f 0 ∷ withName 0x40 0 ∷ withName 0x01 1 ∷ []) ≡ 5 ∷ 5 ∷ 5 ∷ 5 ∷ []
+unfolding evaluated number
+name-examples = refl
+
+-- labels in their five bits: the highest of 3 stalls, and the first above it
+label-examples : map (λ k. number (packed (withLabel k))) (0 ∷ 10 ∷ 11 ∷ 31 ∷ []) ≡ 0 ∷ 0 ∷ 5 ∷ 5 ∷ []
+unfolding evaluated number
+label-examples = refl
