@@ -1,0 +1,8 @@
+-- The lemmas of `storage`.
+mod Unpacking
+mod SameCalls
+mod Exact
+mod Claims
+mod Existence
+mod Compared
+pub mod Theory
