@@ -1,6 +1,6 @@
 //! The line program of document 01 in plain Rust, over the model: what each line is answered.
 
-use crate::model::{self, Table, NOT_MILKED};
+use crate::model::{Form, Table, NOT_MILKED};
 
 /// A line that has a meaning.
 enum Frame {
@@ -118,7 +118,7 @@ impl Lines {
 
     fn milk(&mut self, stall: u8, new: u16) -> Result<Vec<u8>, u8> {
         let place = self.place(stall)?;
-        match model::milking(&mut self.images[place], new) {
+        match Form::Plain.milking(&mut self.images[place], new) {
             0 => Ok(vec![]),
             number => Err(number as u8),
         }
@@ -131,7 +131,7 @@ impl Lines {
         }
         let mut verdicts = vec![0; self.images.len() - 1];
         let mut second = self.images[b].clone();
-        match model::meeting(&mut self.images[a], &mut second, &mut verdicts) {
+        match Form::Plain.meeting(&mut self.images[a], &mut second, &mut verdicts) {
             label @ 0..=255 => {
                 self.images[b] = second;
                 Ok([&[label as u8], &verdicts[..]].concat())
@@ -142,7 +142,7 @@ impl Lines {
 
     fn heard(&self, stall: u8) -> Result<Vec<u8>, u8> {
         let mut records = vec![0; 3 * (self.images.len() - 1)];
-        match model::heard(&self.images[self.place(stall)?], &mut records) {
+        match Form::Plain.heard(&self.images[self.place(stall)?], &mut records) {
             count @ 0..=255 => Ok([&[count as u8], &records[..3 * count as usize]].concat()),
             refused => Err((refused - 256) as u8),
         }

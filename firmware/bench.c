@@ -1,5 +1,6 @@
 /* Times the check and the meeting of wilbryn.h against the plain and the expert version on the same
-   images, and measures the stack that they touch. */
+   images, then those on packed images against the plain version and against wilbryn.h's own on the
+   unpacked ones; and measures the stack that they touch. */
 #define _XOPEN_SOURCE 700
 #include "wilbryn.h"
 
@@ -11,19 +12,33 @@
 
 extern __typeof__(wilbryn_fresh) plain_fresh;
 extern __typeof__(wilbryn_milking) plain_milking;
-extern __typeof__(wilbryn_check) plain_check, expert_check;
-extern __typeof__(wilbryn_meeting) plain_meeting, expert_meeting;
+extern __typeof__(wilbryn_pack) plain_pack;
+extern __typeof__(wilbryn_unpack) plain_unpack;
+extern __typeof__(wilbryn_check) plain_check, expert_check, plain_packed_check;
+extern __typeof__(wilbryn_meeting) plain_meeting, expert_meeting, plain_packed_meeting;
 
-enum { PLAIN, EXPERT, WILBRYN, VERSIONS };
+enum form { UNPACKED, PACKED, FORMS };
 
-static const struct version {
+/* The last of three versions is measured against the two others. */
+enum { LAST = 2, VERSIONS };
+
+struct version {
     const char *name;
+    enum form form;
     __typeof__(wilbryn_check) *check;
     __typeof__(wilbryn_meeting) *meeting;
-} versions[VERSIONS] = {
-    [PLAIN] = {"plain", plain_check, plain_meeting},
-    [EXPERT] = {"expert", expert_check, expert_meeting},
-    [WILBRYN] = {"wilbryn", wilbryn_check, wilbryn_meeting},
+};
+
+static const struct version on_images[VERSIONS] = {
+    {"plain", UNPACKED, plain_check, plain_meeting},
+    {"expert", UNPACKED, expert_check, expert_meeting},
+    {"wilbryn", UNPACKED, wilbryn_check, wilbryn_meeting},
+};
+
+static const struct version on_packed[VERSIONS] = {
+    {"plain", PACKED, plain_packed_check, plain_packed_meeting},
+    {"wilbryn", UNPACKED, wilbryn_check, wilbryn_meeting},
+    {"packed", PACKED, wilbryn_packed_check, wilbryn_packed_meeting},
 };
 
 enum { PAIRS = 256, REPEATS = 8, WARM_UP = 4, ROUNDS = 61, STACK = 1 << 17 };
@@ -38,26 +53,34 @@ static unsigned below(unsigned limit) {
     return (unsigned)(seed % limit);
 }
 
-/* What the calls are lent, for each N: two heads of one parlour just before a meeting, and a buffer
-   in which no verdict stands. */
+/* What the calls are lent, for each form and N: two heads of one parlour just before a meeting, and
+   a buffer in which no verdict stands. */
 static struct lent {
     uint8_t first[LONGEST], second[LONGEST], verdicts[MOST];
-} pairs_of[MOST + 1][PAIRS], work;
+} pairs_of[FORMS][MOST + 1][PAIRS], work;
 
-/* The version at work; the N at work, its image length and its pairs. */
-static const struct version *version;
-static size_t n, len;
-static struct lent *pairs;
+/* The N at work and its lengths; the versions compared, and the one at work with its length and its
+   pairs. */
+static size_t n, lens[FORMS], len;
+static const struct version *versions, *version;
+static const struct lent *pairs;
 
 static void work_on(size_t size) {
     n = size;
-    len = WILBRYN_IMAGE_LENGTH(n);
-    pairs = pairs_of[n];
+    lens[UNPACKED] = WILBRYN_IMAGE_LENGTH(n);
+    lens[PACKED] = WILBRYN_PACKED_LENGTH(n);
+}
+
+static void work_with(int v) {
+    version = &versions[v];
+    len = lens[version->form];
+    pairs = pairs_of[version->form][n];
 }
 
 /* Each pair comes from a list of its own, of 20 to 200 meetings with milkings between. */
-static void make_pair(struct lent *pair) {
+static void make_pair(struct lent *pair, struct lent *packed) {
     uint8_t images[MOST][LONGEST];
+    size_t len = lens[UNPACKED], packed_len = lens[PACKED];
     for (uint8_t r = 0; r < n; r++) plain_fresh(images[r], len, (uint8_t)n, r + 1);
     for (unsigned left = 20 + below(181); left > 0; left--) {
         unsigned a = below((unsigned)n), b = (a + 1 + below((unsigned)n - 1)) % (unsigned)n;
@@ -67,6 +90,9 @@ static void make_pair(struct lent *pair) {
         plain_meeting(images[a], len, images[b], len, pair->verdicts, n);
     }
     memset(pair->verdicts, 0xee, sizeof pair->verdicts);
+    *packed = *pair;
+    plain_pack(pair->first, len, packed->first, packed_len);
+    plain_pack(pair->second, len, packed->second, packed_len);
 }
 
 /* A call on what lies in work, or nothing (the copying alone). */
@@ -157,16 +183,27 @@ static size_t stack_of(call *call) {
     return most;
 }
 
+/* What lies in work, unpacked. */
+static struct lent unpacked(void) {
+    struct lent lent = work;
+    if (version->form == PACKED) {
+        plain_unpack(work.first, len, lent.first, lens[UNPACKED]);
+        plain_unpack(work.second, len, lent.second, lens[UNPACKED]);
+    }
+    return lent;
+}
+
 /* All must do the same, or the times mean nothing. */
 static void expect_same(call *call) {
     for (int i = 0; i < PAIRS; i++) {
         uint32_t answers[VERSIONS];
         struct lent after[VERSIONS];
         for (int v = 0; v < VERSIONS; v++) {
-            version = &versions[v];
+            work_with(v);
+            memset(&work, 0, sizeof work);
             lay_out(&pairs[i]);
             answers[v] = call();
-            after[v] = work;
+            after[v] = unpacked();
             if (answers[v] != answers[0] || memcmp(&after[v], &after[0], sizeof work) != 0) {
                 printf("N = %zu: %s and %s differ\n", n, versions[0].name, version->name);
                 exit(1);
@@ -177,15 +214,15 @@ static void expect_same(call *call) {
 
 /* The times of one N, round by round. */
 static struct times {
-    double copying[ROUNDS], of[VERSIONS][ROUNDS];
+    double copying[VERSIONS][ROUNDS], of[VERSIONS][ROUNDS];
 } times_of[MOST + 1];
 
 /* The versions take turns at coming first. */
 static void time_round(struct times *times, int round, call *call) {
-    times->copying[round] = time_of(nothing);
     for (int turn = 0; turn < VERSIONS; turn++) {
         int v = (round + turn) % VERSIONS;
-        version = &versions[v];
+        work_with(v);
+        times->copying[v][round] = time_of(nothing);
         times->of[v][round] = time_of(call);
     }
 }
@@ -201,14 +238,15 @@ static void time_all(call *call) {
 }
 
 static double median(size_t size, int v) {
-    return quantile(times_of[size].of[v], 0.5) - quantile(times_of[size].copying, 0.5);
+    return quantile(times_of[size].of[v], 0.5) - quantile(times_of[size].copying[v], 0.5);
 }
 
-/* Of wilbryn to another version, round by round. */
+/* Of the last version to another, round by round. */
 static void print_ratio(const struct times *times, int other) {
-    double copying = quantile(times->copying, 0.5), ratios[ROUNDS];
+    double copying = quantile(times->copying[LAST], 0.5), ratios[ROUNDS];
+    double others_copying = quantile(times->copying[other], 0.5);
     for (int i = 0; i < ROUNDS; i++) {
-        ratios[i] = (times->of[WILBRYN][i] - copying) / (times->of[other][i] - copying);
+        ratios[i] = (times->of[LAST][i] - copying) / (times->of[other][i] - others_copying);
     }
     printf("%8.2f %6.2f to %5.2f", quantile(ratios, 0.5), quantile(ratios, 0.25),
            quantile(ratios, 0.75));
@@ -217,22 +255,36 @@ static void print_ratio(const struct times *times, int other) {
 static void print_row(call *call) {
     printf("%3zu", n);
     for (int v = 0; v < VERSIONS; v++) printf("%8.1f", median(n, v));
-    for (int v = 0; v < WILBRYN; v++) print_ratio(&times_of[n], v);
+    for (int v = 0; v < LAST; v++) print_ratio(&times_of[n], v);
     for (int v = 0; v < VERSIONS; v++) printf("%8.2f", median(n, v) / median(2, v));
     for (int v = 0; v < VERSIONS; v++) {
-        version = &versions[v];
+        work_with(v);
         printf("%8zu", stack_of(call));
     }
     printf("\n");
 }
 
-static void compare(const char *what, call *call) {
-    printf("%s: medians of %d interleaved rounds, the copying of the images taken off\n"
-           "            ns a call           wilbryn / plain         wilbryn / expert"
-           "            times N = 2           bytes of stack\n"
-           "  N   plain  expert wilbryn   ratio    quartiles       ratio    quartiles   "
-           "   plain  expert wilbryn   plain  expert wilbryn\n",
-           what, ROUNDS);
+/* The names of the versions as heads of three columns. */
+static void print_names(void) {
+    for (int v = 0; v < VERSIONS; v++) printf("%8s", versions[v].name);
+}
+
+static void print_heads(const char *what) {
+    printf("%s: medians of %d interleaved rounds, the copying of the images taken off\n", what,
+           ROUNDS);
+    printf("            ns a call      ");
+    for (int v = 0; v < LAST; v++) printf("%12s / %-9s", versions[LAST].name, versions[v].name);
+    printf("         times N = 2           bytes of stack\n  N");
+    print_names();
+    printf("   ratio    quartiles       ratio    quartiles   ");
+    print_names();
+    print_names();
+    printf("\n");
+}
+
+static void compare(const char *what, const struct version *compared, call *call) {
+    versions = compared;
+    print_heads(what);
     for (size_t size = 2; size <= MOST; size++) {
         work_on(size);
         expect_same(call);
@@ -247,9 +299,13 @@ static void compare(const char *what, call *call) {
 int main(void) {
     for (size_t size = 2; size <= MOST; size++) {
         work_on(size);
-        for (int i = 0; i < PAIRS; i++) make_pair(&pairs[i]);
+        for (int i = 0; i < PAIRS; i++) {
+            make_pair(&pairs_of[UNPACKED][n][i], &pairs_of[PACKED][n][i]);
+        }
     }
-    compare("check", check);
-    compare("meeting", meeting);
+    compare("check", on_images, check);
+    compare("meeting", on_images, meeting);
+    compare("packed check; wilbryn: that of the unpacked images", on_packed, check);
+    compare("packed meeting; wilbryn: that of the unpacked images", on_packed, meeting);
     return 0;
 }

@@ -1,7 +1,7 @@
-//! The calls on one image, each made in the library and in the model. The first difference ends the
-//! run. Every run is lent in a heap block of exactly its length.
+//! The calls, each made in the library and in the model. The first difference ends the run. Every
+//! run is lent in a heap block of exactly its length.
 
-use crate::model::{self, Table};
+use crate::model::{Form, Table};
 use std::collections::BTreeMap;
 use std::process::exit;
 
@@ -10,7 +10,34 @@ extern "C" {
     fn wilbryn_check(image: *const u8, len: usize) -> u32;
     fn wilbryn_milking(image: *mut u8, len: usize, new: u16) -> u32;
     fn wilbryn_heard(image: *const u8, len: usize, records: *mut u8, records_len: usize) -> u32;
+    fn wilbryn_meeting(
+        first: *mut u8,
+        first_len: usize,
+        second: *mut u8,
+        second_len: usize,
+        verdicts: *mut u8,
+        verdicts_len: usize,
+    ) -> u32;
 }
+
+/// The library's calls on images of a form.
+pub struct Calls {
+    pub form: Form,
+    pub fresh: unsafe extern "C" fn(*mut u8, usize, u8, u8) -> u32,
+    pub check: unsafe extern "C" fn(*const u8, usize) -> u32,
+    pub milking: unsafe extern "C" fn(*mut u8, usize, u16) -> u32,
+    pub heard: unsafe extern "C" fn(*const u8, usize, *mut u8, usize) -> u32,
+    pub meeting: unsafe extern "C" fn(*mut u8, usize, *mut u8, usize, *mut u8, usize) -> u32,
+}
+
+pub static PLAIN: Calls = Calls {
+    form: Form::Plain,
+    fresh: wilbryn_fresh,
+    check: wilbryn_check,
+    milking: wilbryn_milking,
+    heard: wilbryn_heard,
+    meeting: wilbryn_meeting,
+};
 
 pub type Run = Box<[u8]>;
 
@@ -129,53 +156,80 @@ pub fn agree(call: &str, lent: &[&[u8]], library: &Outcome, model: &Outcome) {
     exit(1);
 }
 
-pub fn fresh(counts: &mut Counts, before: &[u8], n: u8, stall: u8) -> Run {
-    let (mut image, mut modelled) = (Run::from(before), Run::from(before));
-    let answer = unsafe { wilbryn_fresh(image.as_mut_ptr(), image.len(), n, stall) };
-    let library = Outcome { answer, runs: vec![image] };
-    let answer = model::fresh(&mut modelled, n, stall);
-    let model = Outcome { answer, runs: vec![modelled] };
-    agree(&format!("fresh {n} {stall}"), &[before], &library, &model);
-    counts.add_number("fresh", answer);
-    library.runs.into_iter().next().unwrap()
-}
-
-pub fn check(counts: &mut Counts, image: &[u8]) -> u32 {
-    let lent = Run::from(image);
-    let answer = unsafe { wilbryn_check(lent.as_ptr(), lent.len()) };
-    let library = Outcome { answer, runs: vec![lent] };
-    let model = Outcome { answer: model::check(image), runs: vec![Run::from(image)] };
-    agree("check", &[image], &library, &model);
-    counts.add_number("check", answer);
-    answer
-}
-
-pub fn milking(counts: &mut Counts, image: &mut [u8], new: u16) -> u32 {
-    let (mut lent, mut modelled) = (Run::from(&*image), Run::from(&*image));
-    let answer = unsafe { wilbryn_milking(lent.as_mut_ptr(), lent.len(), new) };
-    let library = Outcome { answer, runs: vec![lent] };
-    let model = Outcome { answer: model::milking(&mut modelled, new), runs: vec![modelled] };
-    agree(&format!("milking {new}"), &[image], &library, &model);
-    counts.add_number("milking", answer);
-    image.copy_from_slice(&library.runs[0]);
-    answer
-}
-
-/// The order of the records is open, so the library's are put by rising stall before comparing.
-pub fn heard(counts: &mut Counts, image: &[u8], records: &[u8]) {
-    let (lent, mut written, mut modelled) =
-        (Run::from(image), Run::from(records), Run::from(records));
-    let answer =
-        unsafe { wilbryn_heard(lent.as_ptr(), lent.len(), written.as_mut_ptr(), written.len()) };
-    if answer < 256 {
-        let mut list: Vec<&[u8]> = written.chunks(3).take(answer as usize).collect();
-        list.sort();
-        let sorted = list.concat();
-        written[..sorted.len()].copy_from_slice(&sorted);
+impl Calls {
+    pub fn fresh(&self, counts: &mut Counts, before: &[u8], n: u8, stall: u8) -> Run {
+        let (mut image, mut modelled) = (Run::from(before), Run::from(before));
+        let answer = unsafe { (self.fresh)(image.as_mut_ptr(), image.len(), n, stall) };
+        let library = Outcome { answer, runs: vec![image] };
+        let answer = self.form.fresh(&mut modelled, n, stall);
+        let model = Outcome { answer, runs: vec![modelled] };
+        agree(&format!("fresh {n} {stall}"), &[before], &library, &model);
+        counts.add_number("fresh", answer);
+        library.runs.into_iter().next().unwrap()
     }
-    let library = Outcome { answer, runs: vec![lent, written] };
-    let answer = model::heard(image, &mut modelled);
-    let model = Outcome { answer, runs: vec![Run::from(image), modelled] };
-    agree("heard", &[image, records], &library, &model);
-    counts.add("heard", answer);
+
+    pub fn check(&self, counts: &mut Counts, image: &[u8]) -> u32 {
+        let lent = Run::from(image);
+        let answer = unsafe { (self.check)(lent.as_ptr(), lent.len()) };
+        let library = Outcome { answer, runs: vec![lent] };
+        let model = Outcome { answer: self.form.check(image), runs: vec![Run::from(image)] };
+        agree("check", &[image], &library, &model);
+        counts.add_number("check", answer);
+        answer
+    }
+
+    pub fn milking(&self, counts: &mut Counts, image: &mut [u8], new: u16) -> u32 {
+        let (mut lent, mut modelled) = (Run::from(&*image), Run::from(&*image));
+        let answer = unsafe { (self.milking)(lent.as_mut_ptr(), lent.len(), new) };
+        let library = Outcome { answer, runs: vec![lent] };
+        let answer = self.form.milking(&mut modelled, new);
+        let model = Outcome { answer, runs: vec![modelled] };
+        agree(&format!("milking {new}"), &[image], &library, &model);
+        counts.add_number("milking", answer);
+        image.copy_from_slice(&library.runs[0]);
+        answer
+    }
+
+    /// The order of the records is open, so for comparing the library's are put by rising stall.
+    /// Answers what was left, in the library's order.
+    pub fn heard(&self, counts: &mut Counts, image: &[u8], records: &[u8]) -> Outcome {
+        let [lent, mut written] = [image, records].map(Run::from);
+        let (len, written_len) = (lent.len(), written.len());
+        let answer = unsafe { (self.heard)(lent.as_ptr(), len, written.as_mut_ptr(), written_len) };
+        let library = Outcome { answer, runs: vec![lent, written] };
+        let mut modelled = Run::from(records);
+        let answer = self.form.heard(image, &mut modelled);
+        let model = Outcome { answer, runs: vec![Run::from(image), modelled] };
+        agree("heard", &[image, records], &by_stall(&library), &model);
+        counts.add("heard", answer);
+        library
+    }
+
+    pub fn meeting(&self, first: &[u8], second: &[u8], verdicts: &[u8]) -> Outcome {
+        let lent = [first, second, verdicts];
+        let [mut a, mut b, mut v] = lent.map(Run::from);
+        let (a_len, b_len, v_len) = (a.len(), b.len(), v.len());
+        let answer = unsafe {
+            (self.meeting)(a.as_mut_ptr(), a_len, b.as_mut_ptr(), b_len, v.as_mut_ptr(), v_len)
+        };
+        let library = Outcome { answer, runs: vec![a, b, v] };
+        let [mut a, mut b, mut v] = lent.map(Run::from);
+        let answer = self.form.meeting(&mut a, &mut b, &mut v);
+        let model = Outcome { answer, runs: vec![a, b, v] };
+        agree("meeting", &lent, &library, &model);
+        library
+    }
+}
+
+/// What a heard list leaves, with its records by rising stall.
+fn by_stall(outcome: &Outcome) -> Outcome {
+    let mut sorted = outcome.clone();
+    if outcome.answer < 256 {
+        let mut list: Vec<&[u8]> =
+            outcome.runs[1].chunks(3).take(outcome.answer as usize).collect();
+        list.sort();
+        let list = list.concat();
+        sorted.runs[1][..list.len()].copy_from_slice(&list);
+    }
+    sorted
 }

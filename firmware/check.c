@@ -1,201 +1,13 @@
-/* The examples of document 01 with requests 2026-01 to 2026-03, on the functions of wilbryn.h.
-   Every run is lent in a heap block of exactly its length. The first difference ends the run. */
-#include "wilbryn.h"
+/* The examples of document 01 with requests 2026-01 to 2026-03, on the functions of wilbryn.h. */
+#include "check_calls.h"
 
-#include <stdio.h>
-#include <stdlib.h>
 #include <string.h>
 
 _Static_assert(WILBRYN_NOT_MILKED == 0xffff, "not milked is ffff");
 
-struct run {
-    uint8_t *bytes;
-    size_t len;
-};
-
-enum call { FRESH, CHECK, MILKING, HEARD, MEETING, CALLS };
-
-static const char *const names[CALLS] = {"fresh", "check", "milking", "heard", "meeting"};
-static unsigned counts[CALLS];
-static const char *doing = "";
-
-static void show(const char *what, struct run run) {
-    printf("  %s (%zu bytes):", what, run.len);
-    for (size_t i = 0; i < run.len; i++) printf(" %02x", run.bytes[i]);
-    printf("\n");
-}
-
-/* Full of 0xee, so that a byte that is not written shows. */
-static struct run lend(size_t len) {
-    struct run run = {malloc(len), len};
-    if (run.bytes == NULL) {
-        printf("no block of %zu bytes\n", len);
-        exit(1);
-    }
-    memset(run.bytes, 0xee, len);
-    return run;
-}
-
-static struct run copy(struct run from) {
-    struct run run = lend(from.len);
-    memcpy(run.bytes, from.bytes, from.len);
-    return run;
-}
-
-/* The bytes that pairs of digits stand for; blanks between pairs are skipped. */
-static struct run from_hex(const char *hex) {
-    uint8_t bytes[512];
-    struct run run = {bytes, 0};
-    unsigned byte;
-    for (; *hex != '\0'; hex += *hex == ' ' ? 1 : 2) {
-        if (*hex != ' ' && sscanf(hex, "%2x", &byte) == 1) bytes[run.len++] = (uint8_t)byte;
-    }
-    return copy(run);
-}
-
-static void give_back(struct run run) { free(run.bytes); }
-
-/* Ends the run unless a call answered as wanted; before: the runs as they were lent. */
-static void expect(enum call call, uint32_t wanted, uint32_t got, const struct run *before,
-                   int runs) {
-    counts[call]++;
-    if (wanted == got) return;
-    printf("%s: %s answers %u, not %u\n", doing, names[call], got, wanted);
-    for (int i = 0; i < runs; i++) show("lent", before[i]);
-    exit(1);
-}
-
-static void expect_bytes(const char *what, struct run wanted, struct run got) {
-    if (wanted.len == got.len && memcmp(wanted.bytes, got.bytes, got.len) == 0) return;
-    printf("%s: %s differs\n", doing, what);
-    show("wanted", wanted);
-    show("got", got);
-    exit(1);
-}
-
-static void expect_hex(const char *what, const char *wanted, struct run got) {
-    struct run bytes = from_hex(wanted);
-    expect_bytes(what, bytes, got);
-    give_back(bytes);
-}
-
-/* The calls, each with the answer that it must give and what it must leave. */
-
-static void check(uint32_t wanted, struct run image) {
-    struct run before = copy(image);
-    expect(CHECK, wanted, wilbryn_check(image.bytes, image.len), &before, 1);
-    expect_bytes("image", before, image);
-    give_back(before);
-}
-
-static void fresh(uint32_t wanted, struct run image, uint8_t n, uint8_t stall) {
-    struct run before = lend(image.len), after = lend(image.len);
-    memset(image.bytes, 0xee, image.len);
-    if (wanted == 0) {
-        memset(after.bytes, 0, after.len);
-        after.bytes[0] = n;
-        after.bytes[1] = stall;
-        memset(after.bytes + 2, 0xff, 2);
-        memset(after.bytes + 4 + 2 * n * n, 0xff, 2 * n);
-    }
-    expect(FRESH, wanted, wilbryn_fresh(image.bytes, image.len, n, stall), &before, 1);
-    expect_bytes("image", after, image);
-    give_back(before);
-    give_back(after);
-}
-
-static void put_yield(struct run image, size_t at, uint16_t yield) {
-    image.bytes[at] = (uint8_t)(yield / 256);
-    image.bytes[at + 1] = (uint8_t)(yield % 256);
-}
-
-static void milking(uint32_t wanted, struct run image, uint16_t yield) {
-    struct run before = copy(image), after = copy(image);
-    if (wanted == 0) put_yield(after, 2, yield);
-    expect(MILKING, wanted, wilbryn_milking(image.bytes, image.len, yield), &before, 1);
-    expect_bytes("image", after, image);
-    give_back(before);
-    give_back(after);
-}
-
-static int by_stall(const void *a, const void *b) { return memcmp(a, b, 3); }
-
-/* list: the records wanted, by rising stall. Their order is open, so those written are put so. */
-static void heard(uint32_t wanted, struct run image, size_t buffer, const char *list) {
-    struct run records = lend(buffer), after = lend(buffer), listed = from_hex(list);
-    struct run before[] = {copy(image), copy(records)};
-    if (wanted < 256) {
-        memset(after.bytes, 0, after.len);
-        memcpy(after.bytes, listed.bytes, listed.len);
-    }
-    uint32_t got = wilbryn_heard(image.bytes, image.len, records.bytes, records.len);
-    expect(HEARD, wanted, got, before, 2);
-    expect_bytes("image", before[0], image);
-    if (wanted < 256) qsort(records.bytes, wanted, 3, by_stall);
-    expect_bytes("records", after, records);
-    struct run all[] = {records, after, listed, before[0], before[1]};
-    for (int i = 0; i < 5; i++) give_back(all[i]);
-}
-
-static struct run part(struct run run, size_t from, size_t to) {
-    return (struct run){run.bytes + from, to - from};
-}
-
-/* wanted_verdicts: what the buffer holds afterwards. A refused meeting changes no image; an
-   accepted one leaves N, stall and current yield, and the rest the same in both. */
-static void meeting(uint32_t wanted, struct run first, struct run second,
-                    struct run wanted_verdicts) {
-    struct run verdicts = lend(wanted_verdicts.len);
-    struct run runs[] = {first, second, verdicts}, before[3];
-    for (int i = 0; i < 3; i++) before[i] = copy(runs[i]);
-    uint32_t got = wilbryn_meeting(first.bytes, first.len, second.bytes, second.len,
-                                   verdicts.bytes, verdicts.len);
-    expect(MEETING, wanted, got, before, 3);
-    expect_bytes("the verdict buffer", wanted_verdicts, verdicts);
-    for (int i = 0; i < 2; i++) {
-        size_t stays = wanted < 256 ? 4 : runs[i].len;
-        expect_bytes("what stays of an image", part(before[i], 0, stays), part(runs[i], 0, stays));
-    }
-    if (wanted < 256) {
-        expect_bytes("the rest of the images", part(first, 4, first.len),
-                     part(second, 4, second.len));
-    }
-    for (int i = 0; i < 3; i++) give_back(before[i]);
-    give_back(verdicts);
-}
-
-static void meeting_refused(uint32_t number, struct run first, struct run second, size_t buffer) {
-    struct run unchanged = lend(buffer);
-    meeting(256 + number, first, second, unchanged);
-    give_back(unchanged);
-}
-
-/* The verdicts with the two named the other way: 1 and 2 are exchanged. */
-static struct run exchanged(struct run verdicts) {
-    struct run turned = copy(verdicts);
-    for (size_t r = 0; r < turned.len; r++) {
-        turned.bytes[r] = (uint8_t)((3 - turned.bytes[r]) % 3);
-    }
-    return turned;
-}
-
-/* Two heads of a list meet. Copies of them, named the other way, get the same label and bytes. */
-static void meeting_either_way(uint32_t label, struct run one, struct run other,
-                               struct run verdicts) {
-    struct run turned[] = {copy(other), copy(one), exchanged(verdicts)};
-    meeting(label, turned[0], turned[1], turned[2]);
-    meeting(label, one, other, verdicts);
-    expect_bytes("the one, named second", one, turned[1]);
-    expect_bytes("the other, named first", other, turned[0]);
-    for (int i = 0; i < 3; i++) give_back(turned[i]);
-}
-
 /* The refusals 1 to 6. The first of each number is document 01's own example; alone: with no other
    fault; 0 is accepted. */
-static const struct {
-    const char *what, *image;
-    uint32_t number;
-} images[] = {
+static const struct example examples[] = {
     {"N = 1", "01", 1},
     {"empty", "", 1},
     {"N = 9", "09", 1},
@@ -240,173 +52,37 @@ static const struct {
     {"heard with the least marks", "0201 0000 02000100 02000100 00000000 0103", 0},
     {"N = 3, label 10", "0301 0000 020a010a0000 020a010a0000 000000000000 00000000ffff 030300", 0},
     {"N = 3, label 11", "0301 0000 020b010b0000 020b010b0000 000000000000 00000000ffff 030300", 5},
+    {NULL, NULL, 0},
 };
 
-enum { IMAGES = sizeof images / sizeof images[0] };
+static void write_no_names(uint8_t *names, uint8_t n) { memset(names, 0, 2u * n * n); }
 
-static void try_images(void) {
-    for (int i = 0; i < IMAGES; i++) {
-        doing = images[i].what;
-        uint32_t number = images[i].number;
-        struct run image = from_hex(images[i].image);
-        check(number, image);
-        heard(256 + (number == 0 ? 8 : number), image, 2, "");
-        if (number != 0) heard(256 + number, image, 6, "");
-        milking(number == 0 ? 4 : number, image, 1000);
-        milking(number, image, 5);
-        give_back(image);
-    }
-}
-
-static void try_fresh(void) {
-    for (uint8_t n = 2; n <= 8; n++) {
-        doing = "a fresh image";
-        struct run image = lend(WILBRYN_IMAGE_LENGTH(n));
-        fresh(3, image, n, 0);
-        fresh(3, image, n, n + 1);
-        for (uint8_t stall = 1; stall <= n; stall++) {
-            fresh(0, image, n, stall);
-            check(0, image);
-            heard(0, image, 3 * n, "");
-        }
-        give_back(image);
-    }
-    doing = "the order 1, 2, 3 of a fresh image";
-    struct run image = lend(2);
-    fresh(1, image, 1, 0);
-    fresh(1, image, 9, 0);
-    fresh(2, image, 2, 0);
-    give_back(image);
-}
-
-static void refuse_milkings(struct run image) {
-    milking(4, image, 1000);
-    milking(4, image, 0xfe00);
-    milking(4, image, 0xfffe);
-    milking(4, image, 0xffff);
-}
-
-static void try_milking(void) {
-    doing = "milking";
-    struct run image = lend(18);
-    fresh(0, image, 2, 1);
-    refuse_milkings(image);
-    milking(0, image, 18);
-    expect_hex("image", "0201 0012 00000000 00000000 ffffffff 0000", image);
-    milking(0, image, 999);
-    refuse_milkings(image);
-    milking(0, image, 0);
-    expect_hex("image", "0201 0000 00000000 00000000 ffffffff 0000", image);
-    give_back(image);
-}
-
-/* What the listing leaves, by stall. Document 01 shows the last; by its rules head 2 differs from
-   that in the stall alone, and head 1 has what the first meeting left. */
-static const char *const listing[] = {
-    "0301 0012 020001000000 020001000000 000000000000 0012ffffffff 030300",
-    "0302 ffff 020001000000 020003000200 020003000200 0012ffffffff 070606",
-    "0303 ffff 020001000000 020003000200 020003000200 0012ffffffff 070606",
+/* In the listing document 01 shows the last; by its rules head 2 differs from that in the stall
+   alone, and head 1 has what the first meeting left. */
+const struct form form = {
+    .says = "check.c: as document 01 says",
+    .lengths = {[2] = 18, 31, 48, 69, 94, 123, 156},
+    .write_no_names = write_no_names,
+    .fresh = wilbryn_fresh,
+    .check = wilbryn_check,
+    .milking = wilbryn_milking,
+    .heard = wilbryn_heard,
+    .meeting = wilbryn_meeting,
+    .examples = examples,
+    .milked = "0201 0012 00000000 00000000 ffffffff 0000",
+    .listing = {"0301 0012 020001000000 020001000000 000000000000 0012ffffffff 030300",
+                "0302 ffff 020001000000 020003000200 020003000200 0012ffffffff 070606",
+                "0303 ffff 020001000000 020003000200 020003000200 0012ffffffff 070606"},
+    .apart = {"0201 0000 02000100 02000100 00000000 0303",
+              "0202 0000 02010101 02010101 00000000 0303"},
 };
-
-static void try_heard(void) {
-    doing = "the heard lists of the listing";
-    struct run first = from_hex(listing[0]), last = from_hex(listing[2]);
-    heard(2, first, 9, "010012 02ffff");
-    heard(3, last, 9, "010012 02ffff 03ffff");
-    heard(256 + 8, last, 8, "");
-    heard(256 + 8, last, 10, "");
-    give_back(last);
-    give_back(first);
-}
-
-struct parlour {
-    uint8_t n;
-    struct run images[9]; /* from 1 */
-};
-
-static struct parlour open(uint8_t n) {
-    struct parlour parlour = {.n = n};
-    for (uint8_t stall = 1; stall <= n; stall++) {
-        parlour.images[stall] = lend(WILBRYN_IMAGE_LENGTH(n));
-        fresh(0, parlour.images[stall], n, stall);
-    }
-    return parlour;
-}
-
-static void shut(struct parlour parlour) {
-    for (uint8_t stall = 1; stall <= parlour.n; stall++) give_back(parlour.images[stall]);
-}
-
-/* The lists to try: pairs of stalls, and the label and the verdicts of each meeting. Those that
-   document 01 does not write down follow from its definitions. */
-static const struct {
-    uint8_t n;
-    const char *meetings, *labels, *verdicts;
-} lists[] = {
-    {2, "12 12 12 12", "0101", "00 00 00 00"},
-    {3, "12 13 12 12 12", "00121", "000 110 101 000 000"},
-    {5, "12 13 14 45 25 24 35", "0000000", "00000 11000 11100 11110 20222 01001 22022"},
-    {5, "12 13 14 45 25 24 12", "0000001", "00000 11000 11100 11110 20222 01001 02022"},
-    {4, "12 13 24 34", "0000", "0000 1100 1100 1212"},
-    {2, "12", "0", "00"},
-    {3, "31", "0", "000"},
-    {4, "24", "0", "0000"},
-    {5, "51", "0", "00000"},
-    {6, "36", "0", "000000"},
-    {7, "72", "0", "0000000"},
-    {8, "87", "0", "00000000"},
-    {3, "12 23", "00", "000 110"},
-};
-
-enum { LISTS = sizeof lists / sizeof lists[0] };
-
-static void try_lists(void) {
-    for (int i = 0; i < LISTS; i++) {
-        doing = lists[i].meetings;
-        struct parlour parlour = open(lists[i].n);
-        struct run verdicts = lend(parlour.n);
-        const char *pair = lists[i].meetings, *digits = lists[i].verdicts;
-        for (uint8_t r = 1; r <= parlour.n; r++) milking(0, parlour.images[r], r);
-        for (const char *label = lists[i].labels; *label != '\0'; label++) {
-            for (size_t r = 0; r < parlour.n; r++) verdicts.bytes[r] = (uint8_t)(digits[r] - '0');
-            meeting_either_way((uint32_t)(*label - '0'), parlour.images[pair[0] - '0'],
-                               parlour.images[pair[1] - '0'], verdicts);
-            pair += 3;
-            digits += parlour.n + 1;
-        }
-        give_back(verdicts);
-        shut(parlour);
-    }
-}
-
-/* The listing as document 01 has it, or with the two of each meeting named the other way: the same
-   labels and images, and the verdicts 1 and 2 exchanged. */
-static void try_listing_named(int one, int other, const char *last_verdicts) {
-    struct parlour parlour = open(3);
-    struct run *images = parlour.images;
-    struct run none_newer = from_hex("000000"), two_newer = from_hex(last_verdicts);
-    milking(0, images[1], 18);
-    meeting(0, images[one], images[other], none_newer);
-    meeting(0, images[one + 1], images[other + 1], two_newer);
-    for (int i = 0; i < 3; i++) expect_hex("an image", listing[i], images[i + 1]);
-    give_back(two_newer);
-    give_back(none_newer);
-    shut(parlour);
-}
-
-static void try_listing(void) {
-    doing = "the listing";
-    try_listing_named(1, 2, "010100");
-    doing = "the listing, named the other way";
-    try_listing_named(2, 1, "020200");
-}
 
 /* Heads 2 and 3 of the listing, but head 3 has 19 for stall 1, of which both have the same news. No
    list leaves such images. Either way round they meet with one label and with no news newer, but
    each time both get the yield that the first has. */
 static void try_from_no_list(void) {
     doing = "images from no list, named either way";
-    struct run two = from_hex(listing[1]), none_newer = from_hex("000000");
+    struct run two = from_hex(form.listing[1]), none_newer = from_hex("000000");
     struct run three =
         from_hex("0303 ffff 020001000000 020003000200 020003000200 0013ffffffff 070606");
     struct run turned[] = {copy(three), copy(two)};
@@ -432,7 +108,7 @@ static const char *const milked_late[] = {
    Head 3 is never milked, and head 4 hears of it from head 1. */
 static void try_not_milked(void) {
     doing = "a head that meets before it is milked";
-    struct parlour parlour = open(4);
+    struct parlour parlour = open_parlour(4);
     struct run *images = parlour.images;
     struct run verdicts[] = {from_hex("00000000"), from_hex("02020000"), from_hex("00020200"),
                              from_hex("01010100")};
@@ -450,7 +126,7 @@ static void try_not_milked(void) {
     meeting(0, images[1], images[4], verdicts[3]);
     heard(4, images[4], 12, "010000 020007 03ffff 04ffff");
     for (int i = 0; i < 4; i++) give_back(verdicts[i]);
-    shut(parlour);
+    shut_parlour(parlour);
 }
 
 /* No list leaves these images; not milked takes the place of a number all the same. */
@@ -525,14 +201,14 @@ static void try_labels(struct run image, uint8_t n, uint8_t other) {
 /* In the image of head 1, which has met one other. */
 static void try_places_after(uint8_t n, uint8_t other) {
     doing = "a first meeting";
-    struct parlour parlour = open(n);
+    struct parlour parlour = open_parlour(n);
     struct run image = parlour.images[1], verdicts = lend(n);
     memset(verdicts.bytes, 0, n);
     meeting(0, image, parlour.images[other], verdicts);
     try_yields(image, n, other);
     try_labels(image, n, other);
     give_back(verdicts);
-    shut(parlour);
+    shut_parlour(parlour);
 }
 
 static void try_places(void) {
@@ -558,8 +234,7 @@ static void add_marks(struct run image, uint8_t r, unsigned marks) {
    pair. The marks are those that check 6 demands. */
 static struct run crowded(uint8_t n, uint8_t stall, uint8_t label) {
     uint8_t partner = 3 - stall;
-    struct run image = lend(WILBRYN_IMAGE_LENGTH(n));
-    fresh(0, image, n, stall);
+    struct run image = fresh_of(n, stall);
     for (uint8_t row = 1; row <= n; row++) {
         put_name(image, row, stall, partner, label++);
         if (row != partner) put_name(image, row, partner, stall, label++);
@@ -634,68 +309,13 @@ static void try_most_names(void) {
     try_crowded_two();
 }
 
-static void try_images_in_meetings(void) {
-    struct run good = from_hex("0202 ffff 00000000 00000000 ffffffff 0000");
-    struct run one = from_hex("01"), marks = from_hex("0201 ffff 00000000 00000000 ffffffff 0001");
-    for (int i = 0; i < IMAGES; i++) {
-        doing = images[i].what;
-        uint32_t number = images[i].number;
-        struct run image = from_hex(images[i].image);
-        if (number != 0) {
-            meeting_refused(number, image, good, 2);
-            meeting_refused(number, good, image, 0);
-            meeting_refused(number, image, one, 2);
-            meeting_refused(6, marks, image, 2);
-        }
-        give_back(image);
-    }
-    give_back(marks);
-    give_back(one);
-    give_back(good);
-}
-
-static void try_pairs(void) {
-    struct run fresh1 = from_hex("0201 ffff 00000000 00000000 ffffffff 0000");
-    struct run fresh2 = from_hex("0202 ffff 00000000 00000000 ffffffff 0000");
-    struct run again1 = copy(fresh1);
-    struct run of3 = lend(WILBRYN_IMAGE_LENGTH(3));
-    fresh(0, of3, 3, 2);
-    struct run odd1 = from_hex("0201 0000 02000100 02000100 00000000 0303");
-    struct run odd2 = from_hex("0202 0000 02010101 02010101 00000000 0303");
-    doing = "one stall";
-    meeting_refused(7, fresh1, again1, 2);
-    meeting_refused(7, fresh1, again1, 1);
-    doing = "different N";
-    meeting_refused(7, fresh1, of3, 2);
-    meeting_refused(7, of3, fresh1, 3);
-    doing = "verdict buffer";
-    for (size_t buffer = 0; buffer < 20; buffer++) {
-        if (buffer != 2) meeting_refused(8, fresh1, fresh2, buffer);
-    }
-    meeting_refused(8, odd1, odd2, 1);
-    doing = "images that do not belong together";
-    meeting_refused(9, odd1, odd2, 2);
-    meeting_refused(9, odd2, odd1, 2);
-    struct run all[] = {fresh1, fresh2, again1, of3, odd1, odd2};
-    for (int i = 0; i < 6; i++) give_back(all[i]);
-}
-
 int main(void) {
-    try_images();
-    try_fresh();
-    try_milking();
-    try_heard();
-    try_lists();
-    try_listing();
+    try_form();
     try_from_no_list();
     try_not_milked();
     try_not_milked_after();
     try_places();
-    try_images_in_meetings();
-    try_pairs();
     try_most_names();
-    printf("check.c: as document 01 says:");
-    for (int call = 0; call < CALLS; call++) printf(" %s %u", names[call], counts[call]);
-    printf("\n");
+    print_counts();
     return 0;
 }

@@ -1,84 +1,33 @@
 //! Compares the library's fresh, check, milking and heard with the model, on images of every kind.
 
+#[allow(dead_code)]
 mod calls;
 #[allow(dead_code)]
 mod images;
 #[allow(dead_code)]
 mod model;
+mod singles;
 
-use calls::{share_of, Counts, Labels};
-use images::{edge_labels, Random, EDGES};
+use calls::{share_of, Counts, Labels, PLAIN};
+use images::{edge_labels, twin, Random, EDGES};
 use model::{label_limit, Name, Table};
 
 const SEED: u64 = 0x5eed_0001;
-
-/// An image of some kind: fresh, accepted, damaged, or any bytes at all.
-fn image(random: &mut Random) -> Vec<u8> {
-    let n = random.size();
-    let stall = random.stall(n);
-    let mut image = match random.below(8) {
-        0 => Table::fresh(n, stall).to_bytes(),
-        _ => images::accepted(random, n, stall).to_bytes(),
-    };
-    match random.below(10) {
-        0..=3 => (),
-        4..=8 => images::damage(random, &mut image),
-        _ => image = any_bytes(random),
-    }
-    image
-}
-
-/// Bytes that no head wrote; with a good start and length often enough, and most others as in a fresh
-/// image.
-fn any_bytes(random: &mut Random) -> Vec<u8> {
-    let n = random.pick(&[0, 1, 2, 3, 4, 5, 6, 7, 8, 9, 255]);
-    let len = if random.percent(60) { model::length(n) } else { random.below(200) };
-    let mut image = random.bytes(len);
-    let fresh = if (2..=8).contains(&n) { Table::fresh(n, 1).to_bytes() } else { vec![] };
-    for (at, byte) in image.iter_mut().enumerate() {
-        match at {
-            0 => *byte = n as u8,
-            1 => *byte = random.below(10) as u8,
-            _ if random.percent(90) => *byte = fresh.get(at).copied().unwrap_or(0),
-            _ => (),
-        }
-    }
-    image
-}
-
-fn buffer_len(random: &mut Random, right: usize) -> usize {
-    match random.below(12) {
-        0 => 0,
-        1 => right.saturating_sub(1),
-        2 => right + 1,
-        3 => random.below(300),
-        _ => right,
-    }
-}
-
-/// One call of fresh, with every part of it right or wrong.
-fn fresh(random: &mut Random, counts: &mut Counts) {
-    let n = if random.percent(80) { random.size() } else { random.byte() as usize };
-    let stall = if random.percent(70) { random.stall(n.max(1)) } else { random.below(12) };
-    let len = buffer_len(random, model::length(n.min(9)));
-    let before = random.bytes(len);
-    calls::fresh(counts, &before, n as u8, stall as u8);
-}
 
 /// The check of an image that has this yield in this place; answers the image.
 fn check_yield(counts: &mut Counts, table: &Table, place: usize, new: u16) -> Vec<u8> {
     let mut changed = table.clone();
     images::put_yield(&mut changed, place, new);
     let image = changed.to_bytes();
-    let number = calls::check(counts, &image);
+    let number = PLAIN.check(counts, &image);
     counts.add_number(calls::yields_at(table, place), number);
     image
 }
 
 /// A heard list of an image, and a milking with a yield at an edge.
 fn list_and_milk(random: &mut Random, counts: &mut Counts, image: &mut [u8]) {
-    calls::heard(counts, image, &random.bytes(3 * image[0] as usize));
-    calls::milking(counts, image, random.pick(&EDGES));
+    PLAIN.heard(counts, image, &random.bytes(3 * image[0] as usize));
+    PLAIN.milking(counts, image, random.pick(&EDGES));
 }
 
 /// Each yield at an edge in each place of a table.
@@ -110,18 +59,6 @@ struct Tried {
     refused: Labels,
 }
 
-/// Where the name of row s, column r must stand too: a latest stands in the own row and in the row
-/// of its stall.
-fn twin(table: &Table, s: usize, r: usize) -> (usize, usize) {
-    if s == table.stall {
-        (r, r)
-    } else if s == r {
-        (table.stall, r)
-    } else {
-        (s, r)
-    }
-}
-
 /// The calls on a table with this label in row s, column r: there alone, then in its twin too,
 /// which leaves no other fault.
 fn try_label(
@@ -134,7 +71,7 @@ fn try_label(
     let [_, number] = [(s, r), twin(&table, s, r)].map(|(s, r)| {
         table.rows[s][r].label = label;
         let mut image = table.to_bytes();
-        let number = calls::check(counts, &image);
+        let number = PLAIN.check(counts, &image);
         list_and_milk(random, counts, &mut image);
         number
     });
@@ -179,7 +116,7 @@ fn all_yields(counts: &mut Counts) {
     table.rows[1][1] = Name { partner: 2, label: 0 };
     table.set_mark(1, 1);
     for new in (0..=u16::MAX).filter(|new| share_of(65_536) == 65_536 || new % 997 < 3) {
-        calls::milking(counts, &mut Table::fresh(2, 1).to_bytes(), new);
+        PLAIN.milking(counts, &mut Table::fresh(2, 1).to_bytes(), new);
         for place in 0..=2 {
             check_yield(counts, &table, place, new);
         }
@@ -191,14 +128,7 @@ fn main() {
     let mut random = Random(SEED);
     let mut counts = Counts::default();
     for _ in 0..share_of(100_000) {
-        let mut image = image(&mut random);
-        calls::check(&mut counts, &image);
-        let n = image.first().map_or(2, |&n| n as usize);
-        let len = buffer_len(&mut random, 3 * n);
-        let records = random.bytes(len);
-        calls::heard(&mut counts, &image, &records);
-        calls::milking(&mut counts, &mut image, random.any_yield());
-        fresh(&mut random, &mut counts);
+        singles::call_each(&mut random, &PLAIN, &mut counts);
     }
     edges(&mut random, &mut counts, share_of(50).max(1));
     let tried = labels(&mut random, &mut counts, share_of(50).max(1));

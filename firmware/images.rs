@@ -1,7 +1,7 @@
 //! Random images: accepted ones that come from no list, related pairs of them, and damaged ones;
 //! and every accepted image of 2 heads.
 
-use crate::model::{check, label_limit, length, Name, Table, NONE, NOT_MILKED};
+use crate::model::{label_limit, Form, Name, Table, NONE, NOT_MILKED};
 use std::iter::once;
 
 /// Yields on both sides of each limit, and those that a reader of one byte, of a signed number or of
@@ -187,6 +187,11 @@ pub fn full(random: &mut Random, n: usize, stall: usize) -> Table {
 /// is made known to the other, so that many pairs are accepted.
 pub fn related(random: &mut Random) -> (Table, Table) {
     let n = random.size();
+    related_of(random, n)
+}
+
+/// The same with so many heads.
+pub fn related_of(random: &mut Random, n: usize) -> (Table, Table) {
     let a = random.stall(n);
     let b = random.other_stall(n, a);
     let style = style(random, n);
@@ -201,6 +206,15 @@ pub fn related(random: &mut Random) -> (Table, Table) {
         settle(random, &mut first, &mut second);
     }
     (first, second)
+}
+
+/// An accepted image to meet the one given: of the same stall, or of any size, which is mostly
+/// another.
+pub fn mismatch(random: &mut Random, table: &Table) -> Table {
+    let same_n = random.percent(50);
+    let n = if same_n { table.n } else { random.size() };
+    let stall = if same_n { table.stall } else { random.stall(n) };
+    accepted(random, n, stall)
 }
 
 /// Two accepted images from no list whose pair has as many different names as there can be: one
@@ -352,7 +366,7 @@ pub fn all_of_two(random: &mut Random, stall: usize) -> Vec<Table> {
         table.rows[other][other] = table.own_row()[other];
         draw_yields(random, table);
     }
-    all.retain(|table| check(&table.to_bytes()) == 0);
+    all.retain(|table| Form::Plain.check(&table.to_bytes()) == 0);
     all
 }
 
@@ -397,39 +411,61 @@ pub fn put_yield(table: &mut Table, place: usize, new: u16) {
     }
 }
 
-/// Damages an image in one to three places.
-pub fn damage(random: &mut Random, image: &mut Vec<u8>) {
-    for _ in 0..1 + random.below(3) {
-        damage_once(random, image);
+/// Where the name of row s, column r must stand too: a latest stands in the own row and in the row
+/// of its stall.
+pub fn twin(table: &Table, s: usize, r: usize) -> (usize, usize) {
+    if s == table.stall {
+        (r, r)
+    } else if s == r {
+        (table.stall, r)
+    } else {
+        (s, r)
     }
 }
 
-fn damage_once(random: &mut Random, image: &mut Vec<u8>) {
+/// Damages an image of a form in one to three places.
+pub fn damage(random: &mut Random, form: Form, image: &mut Vec<u8>) {
+    for _ in 0..1 + random.below(3) {
+        damage_once(random, form, image);
+    }
+}
+
+fn damage_once(random: &mut Random, form: Form, image: &mut Vec<u8>) {
     let n = image.first().map_or(0, |&n| n as usize);
-    if !(2..=8).contains(&n) || image.len() != length(n) {
+    if !(2..=8).contains(&n) || image.len() != form.length(n) {
         return;
     }
-    let (rows, yields, order) = (4, 4 + 2 * n * n, 4 + 2 * n * n + 2 * n);
+    let yields = 4 + form.name_len() * n * n;
+    let order = yields + 2 * n;
     match random.below(12) {
         0 => image[0] = random.pick(&[0, 1, 2, 3, 7, 8, 9, 255]),
-        1 => image.truncate(random.below(length(n))),
+        1 => image.truncate(random.below(form.length(n))),
         2 => image.extend(vec![0; 1 + random.below(40)]),
         3 => image[1] = random.pick(&[0, 1, n as u8, n as u8 + 1, 255]),
         4 => write_yield(image, 2, random.any_yield()),
         5 | 6 => write_yield(image, yields + 2 * random.below(n), random.any_yield()),
-        7 => image[rows + 2 * random.below(n * n)] = random.below(n + 2) as u8,
-        8 => image[rows + 2 * random.below(n * n) + 1] = random.pick(&edge_labels(n)),
-        9 => {
-            let column = random.below(n);
-            let at = rows + 2 * n * random.below(n) + 2 * column;
-            let name = name(random, n, column + 1, label_limit(n) + 1);
-            (image[at], image[at + 1]) = (name.partner, name.label);
-        }
+        7..=9 => damage_name(random, form, n, &mut image[4..yields]),
         10 => image[order + random.below(n)] ^= 1 << random.below(8),
         _ => {
             let at = random.below(image.len());
             image[at] = random.byte();
         }
+    }
+}
+
+/// Puts something else in place of one of the names, given row by row: half of a name, or a whole
+/// one that is good by itself.
+fn damage_name(random: &mut Random, form: Form, n: usize, names: &mut [u8]) {
+    let column = random.below(n);
+    let at = form.name_len() * (n * random.below(n) + column);
+    let Name { partner, label } = name(random, n, column + 1, label_limit(n) + 1);
+    match (random.below(3), form) {
+        (0, Form::Plain) => names[at] = random.below(n + 2) as u8,
+        (1, Form::Plain) => names[at + 1] = random.pick(&edge_labels(n)),
+        (_, Form::Plain) => (names[at], names[at + 1]) = (partner, label),
+        (0, Form::Packed) => names[at] = 32 * random.below(8) as u8 + names[at] % 32,
+        (1, Form::Packed) => names[at] = names[at] / 32 * 32 + random.below(32) as u8,
+        (_, Form::Packed) => names[at] = 32 * (partner - 1) + label,
     }
 }
 

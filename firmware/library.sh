@@ -9,7 +9,10 @@ out=$PWD/target/firmware
 mkdir -p "$out"
 if [ -z "$lib" ]; then
     rt staticlib head
-    lib=$PWD/target/staticlib/libhead.a
+    rt staticlib packed
+    # Both archives as one object, for WILBRYN_LIB names one file too.
+    lib=$out/wilbryn.o
+    ld -r --whole-archive target/staticlib/libhead.a target/staticlib/libpacked.a -o "$lib"
 fi
 if [ -z "$program" ]; then
     rt check wilbryn

@@ -15,7 +15,7 @@ pub enum Item {
 
 impl Item {
     /// Its heads; that of a milking twice.
-    fn heads(self) -> [usize; 2] {
+    pub fn heads(self) -> [usize; 2] {
         match self {
             Item::Milking { stall, .. } => [stall, stall],
             Item::Meeting { first, second, .. } => [first, second],

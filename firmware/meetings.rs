@@ -9,10 +9,10 @@ mod model;
 mod pairs;
 mod parlour;
 
-use calls::{hex, share_of, Counts, Run};
+use calls::{hex, share_of, Counts, Run, PLAIN};
 use history::{History, Pasts};
 use images::{Random, EDGES};
-use model::{label_limit, Table};
+use model::{label_limit, Form, Table};
 use pairs::{next_pair, Way, WAYS};
 use parlour::{buffer, Parlour, Seen};
 use std::process::exit;
@@ -78,25 +78,19 @@ fn damaged(random: &mut Random, seen: &mut Seen, steps: usize) {
     for _ in 0..steps {
         let (first, second) = images::related(random);
         let verdicts = buffer(random, first.n, 10);
+        let odd = images::mismatch(random, &first).to_bytes();
         let (mut first, mut second) = (first.to_bytes(), second.to_bytes());
         match random.below(4) {
-            0 => images::damage(random, &mut first),
-            1 => images::damage(random, &mut second),
+            0 => images::damage(random, Form::Plain, &mut first),
+            1 => images::damage(random, Form::Plain, &mut second),
             2 => {
-                images::damage(random, &mut first);
-                images::damage(random, &mut second);
+                images::damage(random, Form::Plain, &mut first);
+                images::damage(random, Form::Plain, &mut second);
             }
-            _ => second = mismatch(random, &first).to_bytes(),
+            _ => second = odd,
         }
         seen.meet("damaged or mismatched", &first, &second, &verdicts);
     }
-}
-
-fn mismatch(random: &mut Random, first: &[u8]) -> Table {
-    let same_n = random.percent(50);
-    let n = if same_n { first[0] as usize } else { random.size() };
-    let stall = if same_n { first[1] as usize } else { random.stall(n) };
-    images::accepted(random, n, stall)
 }
 
 /// Images from no list, one of them with a yield at an edge in one place.
@@ -306,7 +300,7 @@ fn require_numbers(counts: &Counts) {
 }
 
 fn main() {
-    let mut seen = Seen::default();
+    let mut seen = Seen::new(&PLAIN);
     let parts: [(&str, u64, usize, fn(&mut Random, &mut Seen, usize)); 9] = [
         ("two moments of a list", 0x5eed_0002, 80_000, moments),
         ("rows from no list", 0x5eed_0003, 80_000, shaken),

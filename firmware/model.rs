@@ -1,4 +1,5 @@
-//! Document 01 with requests 2026-01 and 2026-02 in plain Rust: the other side of every comparison.
+//! Document 01 with requests 2026-01, 2026-02 and 2026-04 in plain Rust: the other side of every
+//! comparison.
 //! Stalls, rows and columns count from 1 as they do there, so index 0 of each array is unused.
 
 use std::ops::RangeInclusive;
@@ -41,8 +42,86 @@ pub struct Table {
     pub order: [u8; 9],
 }
 
-pub fn length(n: usize) -> usize {
-    2 * n * n + 3 * n + 4
+/// How a table stands in bytes: as document 01 has it, or as request 2026-04 packs it.
+#[derive(Clone, Copy, PartialEq, Eq)]
+pub enum Form {
+    Plain,
+    Packed,
+}
+
+impl Form {
+    pub fn other(self) -> Form {
+        match self {
+            Form::Plain => Form::Packed,
+            Form::Packed => Form::Plain,
+        }
+    }
+
+    /// How many bytes a name has.
+    pub fn name_len(self) -> usize {
+        match self {
+            Form::Plain => 2,
+            Form::Packed => 1,
+        }
+    }
+
+    /// Request 2026-04: "so the length is N × N + 3 × N + 4".
+    pub fn length(self, n: usize) -> usize {
+        self.name_len() * n * n + 3 * n + 4
+    }
+
+    /// Request 2026-04: "partner minus 1 in the upper three bits, label in the lower five; a stall's
+    /// own number as partner, with label 0, means none".
+    fn read_name(self, bytes: &[u8], column: usize) -> Name {
+        match self {
+            Form::Plain => Name { partner: bytes[0], label: bytes[1] },
+            Form::Packed if bytes[0] == 32 * (column as u8 - 1) => NONE,
+            Form::Packed => Name { partner: bytes[0] / 32 + 1, label: bytes[0] % 32 },
+        }
+    }
+
+    fn write_name(self, image: &mut Vec<u8>, name: Name, column: usize) {
+        match self {
+            Form::Plain => image.extend([name.partner, name.label]),
+            Form::Packed if name == NONE => image.push(32 * (column as u8 - 1)),
+            Form::Packed => image.push(32 * (name.partner - 1) + name.label),
+        }
+    }
+
+    /// Takes an image of the right length apart. Request 2026-04: "Header, yields and marks keep
+    /// their order".
+    fn take_apart(self, image: &[u8]) -> Table {
+        let word = |at: usize| u16::from_be_bytes([image[at], image[at + 1]]);
+        let mut table = Table::fresh(image[0] as usize, image[1] as usize);
+        let (n, name_len) = (table.n, self.name_len());
+        let yields = 4 + name_len * n * n;
+        let order = yields + 2 * n;
+        table.current = word(2);
+        for s in 1..=n {
+            for r in 1..=n {
+                let at = 4 + name_len * (n * (s - 1) + r - 1);
+                table.rows[s][r] = self.read_name(&image[at..], r);
+            }
+            table.yields[s] = word(yields + 2 * (s - 1));
+            table.order[s] = image[order + s - 1];
+        }
+        table
+    }
+
+    pub fn bytes(self, table: &Table) -> Vec<u8> {
+        let mut image = vec![table.n as u8, table.stall as u8];
+        image.extend(table.current.to_be_bytes());
+        for s in table.stalls() {
+            for r in table.stalls() {
+                self.write_name(&mut image, table.rows[s][r], r);
+            }
+        }
+        for r in table.stalls() {
+            image.extend(table.yields[r].to_be_bytes());
+        }
+        image.extend(&table.order[1..=table.n]);
+        image
+    }
 }
 
 /// Request 2026-02: "The label limit becomes 4 × N − 2 wherever labels are chosen or checked".
@@ -58,37 +137,8 @@ impl Table {
         Table { n, stall, current: NOT_MILKED, rows: [[NONE; 9]; 9], yields, order: [0; 9] }
     }
 
-    /// Takes an image of the right length apart.
-    fn from_bytes(image: &[u8]) -> Table {
-        let word = |at: usize| u16::from_be_bytes([image[at], image[at + 1]]);
-        let mut table = Table::fresh(image[0] as usize, image[1] as usize);
-        let n = table.n;
-        let (rows, yields, order) = (4, 4 + 2 * n * n, 4 + 2 * n * n + 2 * n);
-        table.current = word(2);
-        for s in 1..=n {
-            for r in 1..=n {
-                let at = rows + 2 * n * (s - 1) + 2 * (r - 1);
-                table.rows[s][r] = Name { partner: image[at], label: image[at + 1] };
-            }
-            table.yields[s] = word(yields + 2 * (s - 1));
-            table.order[s] = image[order + s - 1];
-        }
-        table
-    }
-
     pub fn to_bytes(&self) -> Vec<u8> {
-        let mut image = vec![self.n as u8, self.stall as u8];
-        image.extend(self.current.to_be_bytes());
-        for s in self.stalls() {
-            for r in self.stalls() {
-                image.extend([self.rows[s][r].partner, self.rows[s][r].label]);
-            }
-        }
-        for r in self.stalls() {
-            image.extend(self.yields[r].to_be_bytes());
-        }
-        image.extend(&self.order[1..=self.n]);
-        image
+        Form::Plain.bytes(self)
     }
 
     pub fn stalls(&self) -> RangeInclusive<usize> {
@@ -150,87 +200,129 @@ impl Table {
     }
 }
 
-/// The table of an image, or the first of the refusals 1 to 6 that applies.
-pub fn read(image: &[u8]) -> Result<Table, u32> {
-    let Some(&n) = image.first() else { return Err(1) };
-    if !(2..=8).contains(&n) {
-        return Err(1);
+/// The calls on images of a form.
+impl Form {
+    /// The table of an image, or the first of the refusals 1 to 6 that applies. Request 2026-04:
+    /// "unpacking refuses what 01's checks refuse of the unpacked form, and own number with another
+    /// label is 5. Check 2 takes the new length for a packed table".
+    pub fn read(self, image: &[u8]) -> Result<Table, u32> {
+        let Some(&n) = image.first() else { return Err(1) };
+        if !(2..=8).contains(&n) {
+            return Err(1);
+        }
+        if image.len() != self.length(n as usize) {
+            return Err(2);
+        }
+        let table = self.take_apart(image);
+        if !table.stalls().contains(&table.stall) {
+            return Err(3);
+        }
+        if table.bad_yields() {
+            return Err(4);
+        }
+        if table.bad_names() {
+            return Err(5);
+        }
+        if table.bad_marks() {
+            return Err(6);
+        }
+        Ok(table)
     }
-    if image.len() != length(n as usize) {
-        return Err(2);
-    }
-    let table = Table::from_bytes(image);
-    if !table.stalls().contains(&table.stall) {
-        return Err(3);
-    }
-    if table.bad_yields() {
-        return Err(4);
-    }
-    if table.bad_names() {
-        return Err(5);
-    }
-    if table.bad_marks() {
-        return Err(6);
-    }
-    Ok(table)
-}
 
-pub fn check(image: &[u8]) -> u32 {
-    read(image).err().unwrap_or(0)
-}
+    pub fn check(self, image: &[u8]) -> u32 {
+        self.read(image).err().unwrap_or(0)
+    }
 
-pub fn fresh(image: &mut [u8], n: u8, stall: u8) -> u32 {
-    if !(2..=8).contains(&n) {
-        return 1;
+    pub fn fresh(self, image: &mut [u8], n: u8, stall: u8) -> u32 {
+        if !(2..=8).contains(&n) {
+            return 1;
+        }
+        if image.len() != self.length(n as usize) {
+            return 2;
+        }
+        if !(1..=n).contains(&stall) {
+            return 3;
+        }
+        image.copy_from_slice(&self.bytes(&Table::fresh(n as usize, stall as usize)));
+        0
     }
-    if image.len() != length(n as usize) {
-        return 2;
-    }
-    if !(1..=n).contains(&stall) {
-        return 3;
-    }
-    image.copy_from_slice(&Table::fresh(n as usize, stall as usize).to_bytes());
-    0
-}
 
-/// Request 2026-01: "A milking with ffff is still number 4".
-pub fn milking(image: &mut [u8], new: u16) -> u32 {
-    match read(image) {
-        Err(number) => number,
-        Ok(_) if new > YIELD_LIMIT => 4,
-        Ok(table) => {
-            image.copy_from_slice(&Table { current: new, ..table }.to_bytes());
-            0
+    /// Request 2026-01: "A milking with ffff is still number 4".
+    pub fn milking(self, image: &mut [u8], new: u16) -> u32 {
+        match self.read(image) {
+            Err(number) => number,
+            Ok(_) if new > YIELD_LIMIT => 4,
+            Ok(table) => {
+                image.copy_from_slice(&self.bytes(&Table { current: new, ..table }));
+                0
+            }
         }
     }
-}
 
-/// Writes the records by rising stall; the document leaves their order open.
-pub fn heard(image: &[u8], records: &mut [u8]) -> u32 {
-    let table = match read(image) {
-        Err(number) => return 256 + number,
-        Ok(table) => table,
-    };
-    if records.len() != 3 * table.n {
-        return 256 + 8;
+    /// Writes the records by rising stall; the document leaves their order open.
+    pub fn heard(self, image: &[u8], records: &mut [u8]) -> u32 {
+        let table = match self.read(image) {
+            Err(number) => return 256 + number,
+            Ok(table) => table,
+        };
+        if records.len() != 3 * table.n {
+            return 256 + 8;
+        }
+        records.fill(0);
+        let heard: Vec<usize> = table.stalls().filter(|&r| table.heard(r)).collect();
+        for (record, &r) in records.chunks_mut(3).zip(&heard) {
+            let [high, low] = table.yields[r].to_be_bytes();
+            record.copy_from_slice(&[r as u8, high, low]);
+        }
+        heard.len() as u32
     }
-    records.fill(0);
-    let heard: Vec<usize> = table.stalls().filter(|&r| table.heard(r)).collect();
-    for (record, &r) in records.chunks_mut(3).zip(&heard) {
-        let [high, low] = table.yields[r].to_be_bytes();
-        record.copy_from_slice(&[r as u8, high, low]);
-    }
-    heard.len() as u32
-}
 
-pub fn meeting(first: &mut [u8], second: &mut [u8], verdicts: &mut [u8]) -> u32 {
-    match join(first, second, verdicts.len()) {
-        Err(number) => 256 + number,
-        Ok(joined) => {
-            first.copy_from_slice(&joined.first.to_bytes());
-            second.copy_from_slice(&joined.second.to_bytes());
-            verdicts.copy_from_slice(&joined.verdicts[1..=joined.first.n]);
-            joined.label as u32
+    pub fn meeting(self, first: &mut [u8], second: &mut [u8], verdicts: &mut [u8]) -> u32 {
+        match self.join(first, second, verdicts.len()) {
+            Err(number) => 256 + number,
+            Ok(joined) => {
+                first.copy_from_slice(&self.bytes(&joined.first));
+                second.copy_from_slice(&self.bytes(&joined.second));
+                verdicts.copy_from_slice(&joined.verdicts[1..=joined.first.n]);
+                joined.label as u32
+            }
+        }
+    }
+
+    fn join(self, first: &[u8], second: &[u8], buffer: usize) -> Result<Joined, u32> {
+        let first = self.read(first)?;
+        let second = self.read(second)?;
+        if first.n != second.n || first.stall == second.stall {
+            return Err(7);
+        }
+        if buffer != first.n {
+            return Err(8);
+        }
+        let mut verdicts = [0; 9];
+        for r in first.stalls() {
+            verdicts[r] = verdict(&first, &second, r)?;
+        }
+        let label = free_label(&first, &second);
+        let merged = merge(&first, &second, &verdicts, label);
+        Ok(Joined {
+            first: Table { stall: first.stall, current: first.current, ..merged.clone() },
+            second: Table { stall: second.stall, current: second.current, ..merged },
+            verdicts,
+            label,
+        })
+    }
+
+    /// Writes what an image says in the other form: packs it, or unpacks it. Request 2026-04: "an
+    /// output buffer of the wrong length is 8, after 1 to 6".
+    pub fn convert(self, image: &[u8], output: &mut [u8]) -> u32 {
+        let other = self.other();
+        match self.read(image) {
+            Err(number) => number,
+            Ok(table) if output.len() != other.length(table.n) => 8,
+            Ok(table) => {
+                output.copy_from_slice(&other.bytes(&table));
+                0
+            }
         }
     }
 }
@@ -241,29 +333,6 @@ struct Joined {
     second: Table,
     verdicts: [u8; 9],
     label: u8,
-}
-
-fn join(first: &[u8], second: &[u8], buffer: usize) -> Result<Joined, u32> {
-    let first = read(first)?;
-    let second = read(second)?;
-    if first.n != second.n || first.stall == second.stall {
-        return Err(7);
-    }
-    if buffer != first.n {
-        return Err(8);
-    }
-    let mut verdicts = [0; 9];
-    for r in first.stalls() {
-        verdicts[r] = verdict(&first, &second, r)?;
-    }
-    let label = free_label(&first, &second);
-    let merged = merge(&first, &second, &verdicts, label);
-    Ok(Joined {
-        first: Table { stall: first.stall, current: first.current, ..merged.clone() },
-        second: Table { stall: second.stall, current: second.current, ..merged },
-        verdicts,
-        label,
-    })
 }
 
 /// Whether one's latest of r is known to the other.

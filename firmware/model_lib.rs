@@ -1,47 +1,83 @@
-//! The model behind the functions of wilbryn.h, so that check.c can run on it.
+//! The model behind the functions of wilbryn.h, so that the C checks can run on it.
 
 #[allow(dead_code)]
 mod model;
 
+use model::Form;
 use std::slice::{from_raw_parts, from_raw_parts_mut};
 
-#[no_mangle]
-unsafe extern "C" fn wilbryn_fresh(image: *mut u8, len: usize, n: u8, stall: u8) -> u32 {
-    model::fresh(from_raw_parts_mut(image, len), n, stall)
+/// Exports the calls on images of a form under these names.
+macro_rules! export {
+    ($form:expr, $fresh:ident, $check:ident, $milking:ident, $heard:ident, $meeting:ident) => {
+        #[no_mangle]
+        unsafe extern "C" fn $fresh(image: *mut u8, len: usize, n: u8, stall: u8) -> u32 {
+            $form.fresh(from_raw_parts_mut(image, len), n, stall)
+        }
+
+        #[no_mangle]
+        unsafe extern "C" fn $check(image: *const u8, len: usize) -> u32 {
+            $form.check(from_raw_parts(image, len))
+        }
+
+        #[no_mangle]
+        unsafe extern "C" fn $milking(image: *mut u8, len: usize, new: u16) -> u32 {
+            $form.milking(from_raw_parts_mut(image, len), new)
+        }
+
+        #[no_mangle]
+        unsafe extern "C" fn $heard(
+            image: *const u8,
+            len: usize,
+            records: *mut u8,
+            records_len: usize,
+        ) -> u32 {
+            $form.heard(from_raw_parts(image, len), from_raw_parts_mut(records, records_len))
+        }
+
+        #[no_mangle]
+        unsafe extern "C" fn $meeting(
+            first: *mut u8,
+            first_len: usize,
+            second: *mut u8,
+            second_len: usize,
+            verdicts: *mut u8,
+            verdicts_len: usize,
+        ) -> u32 {
+            $form.meeting(
+                from_raw_parts_mut(first, first_len),
+                from_raw_parts_mut(second, second_len),
+                from_raw_parts_mut(verdicts, verdicts_len),
+            )
+        }
+    };
 }
 
-#[no_mangle]
-unsafe extern "C" fn wilbryn_check(image: *const u8, len: usize) -> u32 {
-    model::check(from_raw_parts(image, len))
-}
+export!(Form::Plain, wilbryn_fresh, wilbryn_check, wilbryn_milking, wilbryn_heard, wilbryn_meeting);
+export!(
+    Form::Packed,
+    wilbryn_packed_fresh,
+    wilbryn_packed_check,
+    wilbryn_packed_milking,
+    wilbryn_packed_heard,
+    wilbryn_packed_meeting
+);
 
 #[no_mangle]
-unsafe extern "C" fn wilbryn_milking(image: *mut u8, len: usize, new: u16) -> u32 {
-    model::milking(from_raw_parts_mut(image, len), new)
-}
-
-#[no_mangle]
-unsafe extern "C" fn wilbryn_heard(
+unsafe extern "C" fn wilbryn_pack(
     image: *const u8,
     len: usize,
-    records: *mut u8,
-    records_len: usize,
+    packed: *mut u8,
+    packed_len: usize,
 ) -> u32 {
-    model::heard(from_raw_parts(image, len), from_raw_parts_mut(records, records_len))
+    Form::Plain.convert(from_raw_parts(image, len), from_raw_parts_mut(packed, packed_len))
 }
 
 #[no_mangle]
-unsafe extern "C" fn wilbryn_meeting(
-    first: *mut u8,
-    first_len: usize,
-    second: *mut u8,
-    second_len: usize,
-    verdicts: *mut u8,
-    verdicts_len: usize,
+unsafe extern "C" fn wilbryn_unpack(
+    packed: *const u8,
+    packed_len: usize,
+    image: *mut u8,
+    len: usize,
 ) -> u32 {
-    model::meeting(
-        from_raw_parts_mut(first, first_len),
-        from_raw_parts_mut(second, second_len),
-        from_raw_parts_mut(verdicts, verdicts_len),
-    )
+    Form::Packed.convert(from_raw_parts(packed, packed_len), from_raw_parts_mut(image, len))
 }

@@ -1,26 +1,16 @@
 //! Meetings in the library and in the model, alone and as the lists of a parlour.
 
-use crate::calls::{self, agree, hex, Counts, Labels, Outcome, Run};
+use crate::calls::{hex, Calls, Counts, Labels, Outcome, Run};
 use crate::images::Random;
-use crate::model::{self, Meeting, Table, NOT_MILKED};
+use crate::model::{Form, Meeting, Table, NOT_MILKED};
 use crate::pairs::{next_pair, Way, WAYS};
 use std::process::exit;
 
-extern "C" {
-    fn wilbryn_meeting(
-        first: *mut u8,
-        first_len: usize,
-        second: *mut u8,
-        second_len: usize,
-        verdicts: *mut u8,
-        verdicts_len: usize,
-    ) -> u32;
-}
-
-/// What the accepted meetings showed.
-#[derive(Default)]
+/// What calls on images of a form showed.
 pub struct Seen {
+    pub calls: &'static Calls,
     pub counts: Counts,
+    /// Of the accepted meetings, as what follows.
     pub verdicts: [u64; 3],
     pub labels: Labels,
     /// How many left one of the two that met, and how many passed on another, as not milked.
@@ -28,6 +18,11 @@ pub struct Seen {
 }
 
 impl Seen {
+    pub fn new(calls: &'static Calls) -> Seen {
+        let (counts, labels) = (Counts::default(), Labels::default());
+        Seen { calls, counts, verdicts: [0; 3], labels, not_milked: [0; 2] }
+    }
+
     /// One meeting in the library and in the model.
     pub fn meet(
         &mut self,
@@ -36,23 +31,15 @@ impl Seen {
         second: &[u8],
         verdicts: &[u8],
     ) -> Outcome {
-        let lent = [first, second, verdicts];
-        let [mut a, mut b, mut v] = lent.map(Run::from);
-        let (a_len, b_len, v_len) = (a.len(), b.len(), v.len());
-        let answer = unsafe {
-            wilbryn_meeting(a.as_mut_ptr(), a_len, b.as_mut_ptr(), b_len, v.as_mut_ptr(), v_len)
-        };
-        let library = Outcome { answer, runs: vec![a, b, v] };
-        let [mut a, mut b, mut v] = lent.map(Run::from);
-        let answer = model::meeting(&mut a, &mut b, &mut v);
-        let model = Outcome { answer, runs: vec![a, b, v] };
-        agree("meeting", &lent, &library, &model);
-        if library.answer < 256 && library.runs[..2].iter().any(|image| model::check(image) != 0) {
-            println!("an accepted meeting left a bad image: {:?}", lent.map(hex));
+        let outcome = self.calls.meeting(first, second, verdicts);
+        let is_bad = |image: &Run| self.calls.form.check(image) != 0;
+        if outcome.answer < 256 && outcome.runs[..2].iter().any(is_bad) {
+            let lent = [first, second, verdicts].map(hex);
+            println!("an accepted meeting left a bad image: {lent:?}");
             exit(1);
         }
-        self.note(kind, &library);
-        library
+        self.note(kind, &outcome);
+        outcome
     }
 
     fn note(&mut self, kind: &'static str, outcome: &Outcome) {
@@ -66,7 +53,7 @@ impl Seen {
     }
 
     fn note_not_milked(&mut self, outcome: &Outcome) {
-        let first = model::read(&outcome.runs[0]).ok().unwrap();
+        let first = self.calls.form.read(&outcome.runs[0]).ok().unwrap();
         let second_stall = outcome.runs[1][1] as usize;
         let met = |r| r == first.stall || r == second_stall;
         let passed_on = |r: usize| !met(r) && outcome.runs[2][r - 1] != 0;
@@ -87,6 +74,7 @@ pub fn buffer(random: &mut Random, n: usize, wrong_percent: usize) -> Vec<u8> {
 
 /// The images of one parlour, as the calls leave them. Index 0 is unused.
 pub struct Parlour {
+    form: Form,
     pub n: usize,
     pub images: Vec<Run>,
     pub way: Way,
@@ -96,12 +84,13 @@ pub struct Parlour {
 
 impl Parlour {
     pub fn open(random: &mut Random, n: usize, seen: &mut Seen) -> Parlour {
-        let before = vec![0xee; model::length(n)];
+        let form = seen.calls.form;
+        let before = vec![0xee; form.length(n)];
         let mut images = vec![Run::default()];
         for stall in 1..=n {
-            images.push(calls::fresh(&mut seen.counts, &before, n as u8, stall as u8));
+            images.push(seen.calls.fresh(&mut seen.counts, &before, n as u8, stall as u8));
         }
-        Parlour { n, images, way: random.pick(&WAYS), pair: (1, 2) }
+        Parlour { form, n, images, way: random.pick(&WAYS), pair: (1, 2) }
     }
 
     pub fn next_pair(&mut self, random: &mut Random) -> (usize, usize) {
@@ -118,7 +107,7 @@ impl Parlour {
     }
 
     pub fn milk(&mut self, seen: &mut Seen, stall: usize, new: u16) -> u32 {
-        calls::milking(&mut seen.counts, &mut self.images[stall], new)
+        seen.calls.milking(&mut seen.counts, &mut self.images[stall], new)
     }
 
     /// Some milkings and one meeting, then a check and a heard list.
@@ -128,8 +117,8 @@ impl Parlour {
         }
         let (a, b) = self.next_pair(random);
         self.meet(seen, "from lists", &buffer(random, self.n, 5));
-        calls::check(&mut seen.counts, &self.images[a]);
-        calls::heard(&mut seen.counts, &self.images[b], &vec![0xee; 3 * self.n]);
+        seen.calls.check(&mut seen.counts, &self.images[a]);
+        seen.calls.heard(&mut seen.counts, &self.images[b], &vec![0xee; 3 * self.n]);
     }
 
     pub fn fail(&self, what: &str) -> ! {
@@ -139,7 +128,8 @@ impl Parlour {
     }
 
     pub fn table(&self, head: usize) -> Table {
-        model::read(&self.images[head]).unwrap_or_else(|_| self.fail("a list left a bad image"))
+        let table = self.form.read(&self.images[head]);
+        table.unwrap_or_else(|_| self.fail("a list left a bad image"))
     }
 
     /// Each meeting that an own row names, with the place that it stands for.

@@ -12,7 +12,7 @@ mod pairs;
 #[allow(dead_code)]
 mod parlour;
 
-use calls::{share_of, Outcome};
+use calls::{share_of, Outcome, PLAIN};
 use images::Random;
 use lists::{Item, Made, Order};
 use pairs::{next_pair, Way};
@@ -89,7 +89,6 @@ impl Tally {
 }
 
 /// What the calls and the lists showed.
-#[derive(Default)]
 struct Test {
     seen: Seen,
     tally: Tally,
@@ -327,7 +326,7 @@ fn require_of_third(tally: &Tally) {
 type Part = fn(&mut Random, &mut Test, usize, &[Item]);
 
 fn main() {
-    let mut test = Test::default();
+    let mut test = Test { seen: Seen::new(&PLAIN), tally: Tally::default() };
     let parts: [(&str, u64, usize, Part); 3] = [
         ("either end of the cable", 0x5eed_0021, 1500, either_end),
         ("trading places", 0x5eed_0022, 1200, trades),

@@ -5,19 +5,28 @@
    high byte first: 0 to 999 decilitres, or WILBRYN_NOT_MILKED. The image of N heads has
    WILBRYN_IMAGE_LENGTH(N) bytes.
 
+   A packed image is the same table in fewer bytes, for storage. Each name is one byte: partner - 1
+   in the upper three bits, label in the lower five; in column c the partner c with label 0 means
+   none. Header, yields and order bytes are as in the image. It has WILBRYN_PACKED_LENGTH(N) bytes.
+   An image has one packed image and a packed image one image, so comparing the bytes of either form
+   compares the tables.
+
    Runs of bytes are lent for the time of a call, as a pointer and a length. Those lent to one call
    must not overlap. No pointer may be null; a run of length 0 may have any other.
 
    A call that refuses changes no lent byte. The numbers of the refusals:
 
      1  image empty, or N not 2 to 8        6  bad order marks
-     2  length not the one for N            7  two images differ in N or have one stall
-     3  stall not 1 to N                    8  verdicts not N bytes, or records not 3 * N
-     4  a yield over 999 and not 0xffff     9  the two images do not belong together
-     5  a bad name
+     2  length not the one for N; a         7  two images differ in N or have one stall
+        packed image has its own            8  verdicts not N bytes, records not 3 * N, or
+     3  stall not 1 to N                       the output of pack or unpack not the length
+     4  a yield over 999 and not 0xffff        for N
+     5  a bad name                          9  the two images do not belong together
 
    The check of an image tries 1 to 6 in order and stops at the first that applies. A stall never
-   heard has the yield WILBRYN_NOT_MILKED: with 0 to 999 the image is refused with 5. */
+   heard has the yield WILBRYN_NOT_MILKED: with 0 to 999 the image is refused with 5. The check of a
+   packed image tries 1, 2, then 3 to 6 of the unpacked form. There a label other than 0 with the
+   column's own number is a bad name: 5. */
 #ifndef WILBRYN_H
 #define WILBRYN_H
 
@@ -30,6 +39,9 @@ extern "C" {
 
 #define WILBRYN_IMAGE_LENGTH(n) (2u * (n) * (n) + 3u * (n) + 4u)
 
+/* For 2 to 8 heads 14, 22, 32, 44, 58, 74, 92. */
+#define WILBRYN_PACKED_LENGTH(n) ((n) * (n) + 3u * (n) + 4u)
+
 /* Labels in images and answers run from 0 to this: 30 for 8 heads, so a label fits five bits. The
    check refuses a higher one with 5. No meeting of two accepted images needs a higher one, whatever
    made them, and some of 3 to 8 heads need this one. A meeting of 2 heads answers at most 5: two
@@ -41,7 +53,7 @@ extern "C" {
    that gave nothing has 0. */
 #define WILBRYN_NOT_MILKED 0xffff
 
-/* wilbryn_heard and wilbryn_meeting answer this plus the number of a refusal. */
+/* The heard lists and the meetings answer this plus the number of a refusal. */
 #define WILBRYN_REFUSED 256
 
 /* Writes the fresh image of a stall in a parlour of n: n, stall, the current yield and all n yields
@@ -72,6 +84,39 @@ uint32_t wilbryn_heard(const uint8_t *image, size_t len, uint8_t *records, size_
    this is not so: where the verdict is 0 but they differ, both get what the first has. */
 uint32_t wilbryn_meeting(uint8_t *first, size_t first_len, uint8_t *second, size_t second_len,
                          uint8_t *verdicts, size_t verdicts_len);
+
+/* Writes the packed image of an image. Answers 0, or 1 to 6 for the image, then 8 if packed_len is
+   not WILBRYN_PACKED_LENGTH(N). */
+uint32_t wilbryn_pack(const uint8_t *image, size_t len, uint8_t *packed, size_t packed_len);
+
+/* Writes the image of a packed image. Answers 0, or 1 to 6 for the packed image, then 8 if len is
+   not WILBRYN_IMAGE_LENGTH(N). Packing what it wrote gives the same packed image again, and
+   unpacking what wilbryn_pack wrote gives the same image again. */
+uint32_t wilbryn_unpack(const uint8_t *packed, size_t packed_len, uint8_t *image, size_t len);
+
+/* The calls above on packed images. Each answers what the call above answers to the unpacked ones,
+   and leaves the same verdicts, the same records in some order, and the packed form of the images
+   that that call leaves. */
+
+/* Writes the packed form of the fresh image. Answers 0, or 1 for n, 2 for packed_len, 3 for stall,
+   tried in this order. */
+uint32_t wilbryn_packed_fresh(uint8_t *packed, size_t packed_len, uint8_t n, uint8_t stall);
+
+/* Checks a packed image. Answers 0, or 1 to 6. */
+uint32_t wilbryn_packed_check(const uint8_t *packed, size_t packed_len);
+
+/* As wilbryn_milking. Answers 0, or 1 to 6 for the packed image, then 4 for the new yield. */
+uint32_t wilbryn_packed_milking(uint8_t *packed, size_t packed_len, uint16_t yield);
+
+/* As wilbryn_heard. Answers how many records there are, or 256 plus 1 to 6 for the packed image, then
+   256 + 8 if records_len is not 3 * N. */
+uint32_t wilbryn_packed_heard(const uint8_t *packed, size_t packed_len, uint8_t *records,
+                              size_t records_len);
+
+/* As wilbryn_meeting. Answers the label of the meeting, or 256 plus a refusal: 1 to 6 for the first
+   packed image, 1 to 6 for the second, then 7, 8, 9. */
+uint32_t wilbryn_packed_meeting(uint8_t *first, size_t first_len, uint8_t *second,
+                                size_t second_len, uint8_t *verdicts, size_t verdicts_len);
 
 #ifdef __cplusplus
 }

@@ -1,0 +1,389 @@
+/* What check_calls.h declares. */
+#include "check_calls.h"
+
+#include <stdio.h>
+#include <stdlib.h>
+#include <string.h>
+
+static const char *const names[CALLS] = {"fresh",   "check", "milking", "heard",
+                                         "meeting", "pack",  "unpack"};
+static unsigned counts[CALLS];
+const char *doing = "";
+
+static void show(const char *what, struct run run) {
+    printf("  %s (%zu bytes):", what, run.len);
+    for (size_t i = 0; i < run.len; i++) printf(" %02x", run.bytes[i]);
+    printf("\n");
+}
+
+/* Full of 0xee, so that a byte that is not written shows. */
+struct run lend(size_t len) {
+    struct run run = {malloc(len), len};
+    if (run.bytes == NULL) {
+        printf("no block of %zu bytes\n", len);
+        exit(1);
+    }
+    memset(run.bytes, 0xee, len);
+    return run;
+}
+
+struct run copy(struct run from) {
+    struct run run = lend(from.len);
+    memcpy(run.bytes, from.bytes, from.len);
+    return run;
+}
+
+/* The bytes that pairs of digits stand for; blanks between pairs are skipped. */
+struct run from_hex(const char *hex) {
+    uint8_t bytes[512];
+    struct run run = {bytes, 0};
+    unsigned byte;
+    for (; *hex != '\0'; hex += *hex == ' ' ? 1 : 2) {
+        if (*hex != ' ' && sscanf(hex, "%2x", &byte) == 1) bytes[run.len++] = (uint8_t)byte;
+    }
+    return copy(run);
+}
+
+void give_back(struct run run) { free(run.bytes); }
+
+/* Ends the run unless a call answered as wanted; before: the runs as they were lent. */
+void expect(enum call call, uint32_t wanted, uint32_t got, const struct run *before, int runs) {
+    counts[call]++;
+    if (wanted == got) return;
+    printf("%s: %s answers %u, not %u\n", doing, names[call], got, wanted);
+    for (int i = 0; i < runs; i++) show("lent", before[i]);
+    exit(1);
+}
+
+void expect_bytes(const char *what, struct run wanted, struct run got) {
+    if (wanted.len == got.len && memcmp(wanted.bytes, got.bytes, got.len) == 0) return;
+    printf("%s: %s differs\n", doing, what);
+    show("wanted", wanted);
+    show("got", got);
+    exit(1);
+}
+
+void expect_hex(const char *what, const char *wanted, struct run got) {
+    struct run bytes = from_hex(wanted);
+    expect_bytes(what, bytes, got);
+    give_back(bytes);
+}
+
+/* The calls, each with the answer that it must give and what it must leave. */
+
+void check(uint32_t wanted, struct run image) {
+    struct run before = copy(image);
+    expect(CHECK, wanted, form.check(image.bytes, image.len), &before, 1);
+    expect_bytes("image", before, image);
+    give_back(before);
+}
+
+void fresh(uint32_t wanted, struct run image, uint8_t n, uint8_t stall) {
+    struct run before = lend(image.len), after = lend(image.len);
+    memset(image.bytes, 0xee, image.len);
+    if (wanted == 0) {
+        memset(after.bytes, 0, after.len);
+        after.bytes[0] = n;
+        after.bytes[1] = stall;
+        memset(after.bytes + 2, 0xff, 2);
+        form.write_no_names(after.bytes + 4, n);
+        memset(after.bytes + after.len - 3u * n, 0xff, 2u * n);
+    }
+    expect(FRESH, wanted, form.fresh(image.bytes, image.len, n, stall), &before, 1);
+    expect_bytes("image", after, image);
+    give_back(before);
+    give_back(after);
+}
+
+void put_yield(struct run image, size_t at, uint16_t yield) {
+    image.bytes[at] = (uint8_t)(yield / 256);
+    image.bytes[at + 1] = (uint8_t)(yield % 256);
+}
+
+void milking(uint32_t wanted, struct run image, uint16_t yield) {
+    struct run before = copy(image), after = copy(image);
+    if (wanted == 0) put_yield(after, 2, yield);
+    expect(MILKING, wanted, form.milking(image.bytes, image.len, yield), &before, 1);
+    expect_bytes("image", after, image);
+    give_back(before);
+    give_back(after);
+}
+
+static int by_stall(const void *a, const void *b) { return memcmp(a, b, 3); }
+
+/* list: the records wanted, by rising stall. Their order is open, so those written are put so. */
+void heard(uint32_t wanted, struct run image, size_t buffer, const char *list) {
+    struct run records = lend(buffer), after = lend(buffer), listed = from_hex(list);
+    struct run before[] = {copy(image), copy(records)};
+    if (wanted < 256) {
+        memset(after.bytes, 0, after.len);
+        memcpy(after.bytes, listed.bytes, listed.len);
+    }
+    uint32_t got = form.heard(image.bytes, image.len, records.bytes, records.len);
+    expect(HEARD, wanted, got, before, 2);
+    expect_bytes("image", before[0], image);
+    if (wanted < 256) qsort(records.bytes, wanted, 3, by_stall);
+    expect_bytes("records", after, records);
+    struct run all[] = {records, after, listed, before[0], before[1]};
+    for (int i = 0; i < 5; i++) give_back(all[i]);
+}
+
+struct run part(struct run run, size_t from, size_t to) {
+    return (struct run){run.bytes + from, to - from};
+}
+
+/* wanted_verdicts: what the buffer holds afterwards. A refused meeting changes no image; an
+   accepted one leaves N, stall and current yield, and the rest the same in both. */
+void meeting(uint32_t wanted, struct run first, struct run second, struct run wanted_verdicts) {
+    struct run verdicts = lend(wanted_verdicts.len);
+    struct run runs[] = {first, second, verdicts}, before[3];
+    for (int i = 0; i < 3; i++) before[i] = copy(runs[i]);
+    uint32_t got = form.meeting(first.bytes, first.len, second.bytes, second.len, verdicts.bytes,
+                                verdicts.len);
+    expect(MEETING, wanted, got, before, 3);
+    expect_bytes("the verdict buffer", wanted_verdicts, verdicts);
+    for (int i = 0; i < 2; i++) {
+        size_t stays = wanted < 256 ? 4 : runs[i].len;
+        expect_bytes("what stays of an image", part(before[i], 0, stays), part(runs[i], 0, stays));
+    }
+    if (wanted < 256) {
+        expect_bytes("the rest of the images", part(first, 4, first.len),
+                     part(second, 4, second.len));
+    }
+    for (int i = 0; i < 3; i++) give_back(before[i]);
+    give_back(verdicts);
+}
+
+void meeting_refused(uint32_t number, struct run first, struct run second, size_t buffer) {
+    struct run unchanged = lend(buffer);
+    meeting(256 + number, first, second, unchanged);
+    give_back(unchanged);
+}
+
+/* The verdicts with the two named the other way: 1 and 2 are exchanged. */
+static struct run exchanged(struct run verdicts) {
+    struct run turned = copy(verdicts);
+    for (size_t r = 0; r < turned.len; r++) {
+        turned.bytes[r] = (uint8_t)((3 - turned.bytes[r]) % 3);
+    }
+    return turned;
+}
+
+/* Two heads of a list meet. Copies of them, named the other way, get the same label and bytes. */
+static void meeting_either_way(uint32_t label, struct run one, struct run other,
+                               struct run verdicts) {
+    struct run turned[] = {copy(other), copy(one), exchanged(verdicts)};
+    meeting(label, turned[0], turned[1], turned[2]);
+    meeting(label, one, other, verdicts);
+    expect_bytes("the one, named second", one, turned[1]);
+    expect_bytes("the other, named first", other, turned[0]);
+    for (int i = 0; i < 3; i++) give_back(turned[i]);
+}
+
+static void try_examples(void) {
+    for (const struct example *example = form.examples; example->image != NULL; example++) {
+        doing = example->what;
+        uint32_t number = example->number;
+        struct run image = from_hex(example->image);
+        check(number, image);
+        heard(256 + (number == 0 ? 8 : number), image, 2, "");
+        if (number != 0) heard(256 + number, image, 6, "");
+        milking(number == 0 ? 4 : number, image, 1000);
+        milking(number, image, 5);
+        give_back(image);
+    }
+}
+
+struct run fresh_of(uint8_t n, uint8_t stall) {
+    struct run image = lend(form.lengths[n]);
+    fresh(0, image, n, stall);
+    return image;
+}
+
+static void try_fresh(void) {
+    for (uint8_t n = 2; n <= 8; n++) {
+        doing = "a fresh image";
+        struct run image = lend(form.lengths[n]);
+        fresh(3, image, n, 0);
+        fresh(3, image, n, n + 1);
+        for (uint8_t stall = 1; stall <= n; stall++) {
+            fresh(0, image, n, stall);
+            check(0, image);
+            heard(0, image, 3 * n, "");
+        }
+        give_back(image);
+    }
+    doing = "the order 1, 2, 3 of a fresh image";
+    struct run image = lend(2);
+    fresh(1, image, 1, 0);
+    fresh(1, image, 9, 0);
+    fresh(2, image, 2, 0);
+    give_back(image);
+}
+
+static void refuse_milkings(struct run image) {
+    milking(4, image, 1000);
+    milking(4, image, 0xfe00);
+    milking(4, image, 0xfffe);
+    milking(4, image, 0xffff);
+}
+
+static void try_milking(void) {
+    doing = "milking";
+    struct run image = fresh_of(2, 1);
+    refuse_milkings(image);
+    milking(0, image, 18);
+    expect_hex("image", form.milked, image);
+    milking(0, image, 999);
+    refuse_milkings(image);
+    milking(0, image, 0);
+    give_back(image);
+}
+
+static void try_heard(void) {
+    doing = "the heard lists of the listing";
+    struct run first = from_hex(form.listing[0]), last = from_hex(form.listing[2]);
+    heard(2, first, 9, "010012 02ffff");
+    heard(3, last, 9, "010012 02ffff 03ffff");
+    heard(256 + 8, last, 8, "");
+    heard(256 + 8, last, 10, "");
+    give_back(last);
+    give_back(first);
+}
+
+struct parlour open_parlour(uint8_t n) {
+    struct parlour parlour = {.n = n};
+    for (uint8_t stall = 1; stall <= n; stall++) {
+        parlour.images[stall] = fresh_of(n, stall);
+    }
+    return parlour;
+}
+
+void shut_parlour(struct parlour parlour) {
+    for (uint8_t stall = 1; stall <= parlour.n; stall++) give_back(parlour.images[stall]);
+}
+
+/* The lists to try: pairs of stalls, and the label and the verdicts of each meeting. Those that
+   document 01 does not write down follow from its definitions. */
+static const struct {
+    uint8_t n;
+    const char *meetings, *labels, *verdicts;
+} lists[] = {
+    {2, "12 12 12 12", "0101", "00 00 00 00"},
+    {3, "12 13 12 12 12", "00121", "000 110 101 000 000"},
+    {5, "12 13 14 45 25 24 35", "0000000", "00000 11000 11100 11110 20222 01001 22022"},
+    {5, "12 13 14 45 25 24 12", "0000001", "00000 11000 11100 11110 20222 01001 02022"},
+    {4, "12 13 24 34", "0000", "0000 1100 1100 1212"},
+    {2, "12", "0", "00"},
+    {3, "31", "0", "000"},
+    {4, "24", "0", "0000"},
+    {5, "51", "0", "00000"},
+    {6, "36", "0", "000000"},
+    {7, "72", "0", "0000000"},
+    {8, "87", "0", "00000000"},
+    {3, "12 23", "00", "000 110"},
+};
+
+enum { LISTS = sizeof lists / sizeof lists[0] };
+
+static void try_lists(void) {
+    for (int i = 0; i < LISTS; i++) {
+        doing = lists[i].meetings;
+        struct parlour parlour = open_parlour(lists[i].n);
+        struct run verdicts = lend(parlour.n);
+        const char *pair = lists[i].meetings, *digits = lists[i].verdicts;
+        for (uint8_t r = 1; r <= parlour.n; r++) milking(0, parlour.images[r], r);
+        for (const char *label = lists[i].labels; *label != '\0'; label++) {
+            for (size_t r = 0; r < parlour.n; r++) verdicts.bytes[r] = (uint8_t)(digits[r] - '0');
+            meeting_either_way((uint32_t)(*label - '0'), parlour.images[pair[0] - '0'],
+                               parlour.images[pair[1] - '0'], verdicts);
+            pair += 3;
+            digits += parlour.n + 1;
+        }
+        give_back(verdicts);
+        shut_parlour(parlour);
+    }
+}
+
+/* The listing as document 01 has it, or with the two of each meeting named the other way: the same
+   labels and images, and the verdicts 1 and 2 exchanged. */
+static void try_listing_named(int one, int other, const char *last_verdicts) {
+    struct parlour parlour = open_parlour(3);
+    struct run *images = parlour.images;
+    struct run none_newer = from_hex("000000"), two_newer = from_hex(last_verdicts);
+    milking(0, images[1], 18);
+    meeting(0, images[one], images[other], none_newer);
+    meeting(0, images[one + 1], images[other + 1], two_newer);
+    for (int i = 0; i < 3; i++) expect_hex("an image", form.listing[i], images[i + 1]);
+    give_back(two_newer);
+    give_back(none_newer);
+    shut_parlour(parlour);
+}
+
+static void try_listing(void) {
+    doing = "the listing";
+    try_listing_named(1, 2, "010100");
+    doing = "the listing, named the other way";
+    try_listing_named(2, 1, "020200");
+}
+
+static void try_examples_in_meetings(void) {
+    struct run good = fresh_of(2, 2), one = from_hex("01"), marks = fresh_of(2, 1);
+    marks.bytes[marks.len - 1] = 1; /* 6 */
+    for (const struct example *example = form.examples; example->image != NULL; example++) {
+        doing = example->what;
+        uint32_t number = example->number;
+        struct run image = from_hex(example->image);
+        if (number != 0) {
+            meeting_refused(number, image, good, 2);
+            meeting_refused(number, good, image, 0);
+            meeting_refused(number, image, one, 2);
+            meeting_refused(6, marks, image, 2);
+        }
+        give_back(image);
+    }
+    give_back(marks);
+    give_back(one);
+    give_back(good);
+}
+
+static void try_pairs(void) {
+    struct run fresh1 = fresh_of(2, 1), again1 = copy(fresh1), fresh2 = fresh_of(2, 2);
+    struct run of3 = fresh_of(3, 2);
+    struct run odd1 = from_hex(form.apart[0]), odd2 = from_hex(form.apart[1]);
+    doing = "one stall";
+    meeting_refused(7, fresh1, again1, 2);
+    meeting_refused(7, fresh1, again1, 1);
+    doing = "different N";
+    meeting_refused(7, fresh1, of3, 2);
+    meeting_refused(7, of3, fresh1, 3);
+    doing = "verdict buffer";
+    for (size_t buffer = 0; buffer < 20; buffer++) {
+        if (buffer != 2) meeting_refused(8, fresh1, fresh2, buffer);
+    }
+    meeting_refused(8, odd1, odd2, 1);
+    doing = "images that do not belong together";
+    meeting_refused(9, odd1, odd2, 2);
+    meeting_refused(9, odd2, odd1, 2);
+    struct run all[] = {fresh1, fresh2, again1, of3, odd1, odd2};
+    for (int i = 0; i < 6; i++) give_back(all[i]);
+}
+
+void try_form(void) {
+    try_examples();
+    try_fresh();
+    try_milking();
+    try_heard();
+    try_lists();
+    try_listing();
+    try_examples_in_meetings();
+    try_pairs();
+}
+
+void print_counts(void) {
+    printf("%s:", form.says);
+    for (int call = 0; call < CALLS; call++) {
+        if (counts[call] != 0) printf(" %s %u", names[call], counts[call]);
+    }
+    printf("\n");
+}

@@ -1,0 +1,68 @@
+//! The calls on packed images, and packing and unpacking, in the library and in the model.
+
+use crate::calls::{agree, hex, Calls, Counts, Outcome, Run};
+use crate::model::Form;
+use std::process::exit;
+
+extern "C" {
+    fn wilbryn_pack(image: *const u8, len: usize, packed: *mut u8, packed_len: usize) -> u32;
+    fn wilbryn_unpack(packed: *const u8, packed_len: usize, image: *mut u8, len: usize) -> u32;
+    fn wilbryn_packed_fresh(packed: *mut u8, len: usize, n: u8, stall: u8) -> u32;
+    fn wilbryn_packed_check(packed: *const u8, len: usize) -> u32;
+    fn wilbryn_packed_milking(packed: *mut u8, len: usize, new: u16) -> u32;
+    fn wilbryn_packed_heard(
+        packed: *const u8,
+        len: usize,
+        records: *mut u8,
+        records_len: usize,
+    ) -> u32;
+    fn wilbryn_packed_meeting(
+        first: *mut u8,
+        first_len: usize,
+        second: *mut u8,
+        second_len: usize,
+        verdicts: *mut u8,
+        verdicts_len: usize,
+    ) -> u32;
+}
+
+pub static PACKED: Calls = Calls {
+    form: Form::Packed,
+    fresh: wilbryn_packed_fresh,
+    check: wilbryn_packed_check,
+    milking: wilbryn_packed_milking,
+    heard: wilbryn_packed_heard,
+    meeting: wilbryn_packed_meeting,
+};
+
+/// Packs an image, or unpacks one that is packed, into a buffer. An accepted one is turned back
+/// too, which must give the same bytes again.
+pub fn convert(counts: &mut Counts, form: Form, image: &[u8], before: &[u8]) -> Outcome {
+    let there = convert_once(counts, form, image, before);
+    if there.answer == 0 {
+        let room = vec![0xee; image.len()];
+        let back = convert_once(counts, form.other(), &there.runs[1], &room);
+        if back.answer != 0 || *back.runs[1] != *image {
+            println!("there and back is not the same: {}, {}", hex(image), hex(&back.runs[1]));
+            exit(1);
+        }
+    }
+    there
+}
+
+fn convert_once(counts: &mut Counts, form: Form, image: &[u8], before: &[u8]) -> Outcome {
+    let (call, function) = match form {
+        Form::Plain => ("pack", wilbryn_pack as unsafe extern "C" fn(_, _, _, _) -> _),
+        Form::Packed => ("unpack", wilbryn_unpack as _),
+    };
+    let [lent, mut written] = [image, before].map(Run::from);
+    let (len, written_len) = (lent.len(), written.len());
+    let answer = unsafe { function(lent.as_ptr(), len, written.as_mut_ptr(), written_len) };
+    let library = Outcome { answer, runs: vec![lent, written] };
+    let mut modelled = Run::from(before);
+    let answer = form.convert(image, &mut modelled);
+    let model = Outcome { answer, runs: vec![Run::from(image), modelled] };
+    agree(call, &[image, before], &library, &model);
+    counts.add_number(call, answer);
+    library
+}
