@@ -123,3 +123,9 @@ module _ (w : ℕ) (f : ℕ → List ℕ) (wide : (r : ℕ) → length (f r) ≡
   each-has {i = i} (suc n) l g =
       has-both (each-has n l (λ r a b. g r a (omega arith)))
       (has-place (sym (place-last i n)) (g (suc n) (omega arith) (omega arith)))
+
+-- a byte for each of n stalls, read back
+pub each-byte : (n : ℕ) (f : ℕ → ℕ) (r : ℕ) → 1 ≤ r → r ≤ n → getD (each n (λ r. f r ∷ [])) (r - 1) 0 ≡ f r
+each-byte n f r i j =
+    let at : r - 1 ≡ 0 + (r - 1) * 1 = omega arith in
+    ap (λ k. getD (each n (λ r. f r ∷ [])) k 0) at ∙ has-first (has-each 1 (λ r. f r ∷ []) (λ r. refl) n (has-self _) r i j) (omega arith)

@@ -1,5 +1,6 @@
 -- The lemmas of `image`. What crates above cite is `pub mod`.
 pub mod Search
+pub mod Counts
 pub mod Bits
 pub mod Tables
 pub mod Gather

@@ -1,4 +1,4 @@
--- The stalls 1 to n: some of them, each of them in turn, and a set of them as a number.
+-- The stalls 1 to n: some of them, each of them in turn, how many of them, and a set of them as a number.
 use Prim.Native.Nat.{ℕ, zero, suc, _+_, _-_, _/_, _%_, _^_}
 use mathlib.Core.Bool.{Bool, false, _&&_, _||_, cond}
 use mathlib.Core.List.{List, [], _++_}
@@ -14,6 +14,14 @@ some (suc n) f = f (suc n) || some n f
 unfoldable pub each : ℕ → (ℕ → List ℕ) → List ℕ
 each zero f = []
 each (suc n) f = each n f ++ f (suc n)
+
+-- how many of 0 to t - 1 pass a test, and how many stalls of 1 to n
+unfoldable pub count : ℕ → (ℕ → Bool) → ℕ
+count zero u = 0
+count (suc t) u = count t u + cond (u t) 1 0
+
+abbrev pub countStalls : ℕ → (ℕ → Bool) → ℕ
+countStalls n f = count n (λ k. f (suc k))
 
 -- the stalls that pass the test, as a number: the bit of value 2 to the power s - 1 for stall s
 unfoldable pub bits : ℕ → (ℕ → Bool) → ℕ

@@ -1,6 +1,6 @@
 -- The label of the meeting.
 -- Document 01: "The label is the lowest that no name of this pair has in any row of either image."
-use Prim.Native.Nat.{ℕ, zero, suc, _+_, _*_}
+use Prim.Native.Nat.{ℕ, zero, suc, _*_}
 use mathlib.Core.Bool.{Bool, false, _&&_, _||_, cond}
 use lib.Dec.{eqb}
 use Rattle.image.specs.Stalls.{some}
@@ -25,11 +25,6 @@ labelUsed n p a q b k = some n (λ r. rowHas p q a k r || rowHas p q b k r)
 unfoldable pub lowestFrom : ℕ → ℕ → (ℕ → Bool) → ℕ
 lowestFrom zero k used = k
 lowestFrom (suc turns) k used = let next = lowestFrom turns (suc k) used in cond (used k) next k
-
--- how many of 0 to t - 1 pass a test
-unfoldable pub count : ℕ → (ℕ → Bool) → ℕ
-count zero u = 0
-count (suc t) u = count t u + cond (u t) 1 0
 
 -- "At most 4 × N names lie in the pair's two columns, so one is always there.": so many turns are enough
 abbrev pub pairNames : ℕ → ℕ

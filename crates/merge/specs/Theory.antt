@@ -5,12 +5,13 @@ use mathlib.Core.Logic.{_↔_}
 use mathlib.Core.Bool.{true, false}
 use mathlib.Core.List.{List}
 use lib.ListN.{length, drop, replicate}
+use Rattle.image.specs.Stalls.{count}
 use Rattle.image.specs.Layout.{labelLimit}
 use Rattle.image.specs.Check.{checked}
 use Rattle.image.specs.Encode.{Table, tableOf}
 use Rattle.image.specs.Theory.{Passes}
 use Rattle.merge.specs.Verdict.{undecided}
-use Rattle.merge.specs.Label.{labelUsed, count, pairNames, newLabel}
+use Rattle.merge.specs.Label.{labelUsed, pairNames, newLabel}
 use Rattle.merge.specs.Call.{meetingCall}
 
 pub record Theory : Type 0 where

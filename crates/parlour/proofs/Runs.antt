@@ -1,5 +1,5 @@
 -- Demand 3, by one induction over the calls, and demand 2 from it.
-use Prim.Native.Nat.{ℕ, zero, suc, _+_, _-_, _*_, _≤_, _<_}
+use Prim.Native.Nat.{ℕ, zero, suc, _-_, _≤_, _<_}
 use mathlib.Core.Path.{_≡_, refl, sym, ap, ap₂, subst, subst₂, _∙_}
 use mathlib.Core.Logic.{_↔_}
 use mathlib.Core.Bool.{cond}
@@ -18,7 +18,7 @@ use Rattle.labels.proofs.Unique.{names-agree}
 use Rattle.image.specs.Stalls.{each}
 use Rattle.image.specs.Layout.{nameAt}
 use Rattle.image.specs.Encode.{tableOf}
-use Rattle.image.proofs.Has.{has-self, has-first, length-each, has-each}
+use Rattle.image.proofs.Has.{length-each, each-byte}
 use Rattle.image.specs.declared.Meet.{Meet}
 use Rattle.image.specs.declared.Name.the-variants.{With}
 use Rattle.parlour.specs.Item.{Item, history}
@@ -93,9 +93,7 @@ unfolding Best.verdicts best
 verdicts-best n l p q =
     let f : ℕ → ℕ = best (events l) (meetings l) p q in
     let bytes : each n (λ r. f r ∷ []) ≡ map f (Best.upTo n) = each-map n f in
-    let one : (r : ℕ) → 1 ≤ r → r ≤ n → getD (map f (Best.upTo n)) (r - 1) 0 ≡ f r = λ r i j.
-    let at : 0 + (r - 1) * 1 ≡ r - 1 = omega arith in
-    ap₂ (λ s k. getD s k 0) (sym bytes) (sym at) ∙ has-first (has-each 1 (λ r. f r ∷ []) (λ r. omega arith) n (has-self _) r i j) (omega arith) in
+    let one : (r : ℕ) → 1 ≤ r → r ≤ n → getD (map f (Best.upTo n)) (r - 1) 0 ≡ f r = λ r i j. ap (λ s. getD s (r - 1) 0) (sym bytes) ∙ each-byte n f r i j in
     record {
       long = ap length (sym bytes) ∙ length-each 1 (λ r. f r ∷ []) (λ r. omega arith) n ∙ omega arith;
       known = λ r i j. subst (λ x. x ≤ 2) (sym (one r i j)) (newer-in (latest (events l) (meetings l) p r) (latest (events l) (meetings l) q r));

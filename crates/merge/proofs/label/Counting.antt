@@ -7,41 +7,16 @@ use native.Mathlib.Omega.{arith}
 use native.Mathlib.Decide.{decLt, ℕ-discrete}
 use borrow.Author.Tests.{eqb-true, ne-eqb}
 use lib.Dec.{eqb}
-use Rattle.image.specs.Stalls.{some}
+use Rattle.image.specs.Stalls.{some, count}
 use Rattle.image.specs.Layout.{labelLimit}
 use Rattle.image.specs.Encode.{Table}
 use Rattle.image.specs.declared.Name.{Name}
 use Rattle.image.specs.declared.Name.the-variants.{Never, With}
 use Rattle.image.proofs.Search.{some-or}
 use Rattle.image.proofs.Passing.{some-more}
-use Rattle.merge.specs.Label.{isMeeting, rowHas, labelUsed, count, pairNames}
+use Rattle.image.proofs.Counts.{count-below, count-none}
+use Rattle.merge.specs.Label.{isMeeting, rowHas, labelUsed, pairNames}
 use Rattle.merge.proofs.Heads.{Heads}
-
--- How many of 0 to t - 1 pass: at least m where all below m do,
-pub count-below : (t m : ℕ) (u : ℕ → Bool) → m ≤ t → ((k : ℕ) → k < m → u k ≡ true) → m ≤ count t u
-unfolding count
-count-below zero m u l f = omega arith
-count-below (suc t) m u l f =
-    elim (ℕ-discrete m (suc t)) [
-      | yes i ↦ rw (f t (omega arith)) (omega (arith, count-below t t u (omega arith) (λ k j. f k (omega arith))))
-      | no i ↦ omega (arith, count-below t m u (omega arith) f)
-    ]
-
--- at least one where one does,
-pub count-some : (t k : ℕ) (u : ℕ → Bool) → k < t → u k ≡ true → 1 ≤ count t u
-unfolding count
-count-some zero k u l e = absurd (omega arith)
-count-some (suc t) k u l e =
-    elim (ℕ-discrete k t) [
-      | yes i ↦ rw (ap u (sym i) ∙ e) (omega arith)
-      | no i ↦ omega (arith, count-some t k u (omega arith) e)
-    ]
-
--- and none where none does
-pub count-none : (t : ℕ) (u : ℕ → Bool) → ((k : ℕ) → k < t → u k ≡ false) → count t u ≡ 0
-unfolding count
-count-none zero u f = refl
-count-none (suc t) u f = rw (f t (omega arith), count-none t u (λ k l. f k (omega arith)))
 
 -- one test or the other, and both
 count-or : (t : ℕ) (u v : ℕ → Bool) → count t (λ k. u k || v k) + count t (λ k. u k && v k) ≡ count t u + count t v

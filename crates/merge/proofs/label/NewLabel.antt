@@ -9,12 +9,13 @@ use Rattle.image.specs.Stalls.{some}
 use Rattle.image.specs.Layout.{labelLimit}
 use Rattle.image.specs.Encode.{Table}
 use Rattle.image.proofs.Search.{some-or}
+use Rattle.image.proofs.Counts.{count-below}
 use Rattle.merge.specs.Label.{rowHas, lowestFrom, labelUsed, pairNames, newLabel}
 use Rattle.merge.specs.LabelSet.{labelSet, hasLabel}
 use Rattle.merge.proofs.Heads.{Heads}
 use Rattle.merge.proofs.label.LabelSets.{has-label, set-or}
 use Rattle.merge.proofs.label.Lowest.{lowest-to, lowest-below, lowest-stops, lowest-is, lowest-agree}
-use Rattle.merge.proofs.label.Counting.{count-below, not-all-used, count-names}
+use Rattle.merge.proofs.label.Counting.{not-all-used, count-names}
 
 module _ (n p : ℕ) (a : Table) (q : ℕ) (b : Table) where
   -- however the tables are made

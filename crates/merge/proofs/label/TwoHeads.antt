@@ -8,7 +8,7 @@ use native.Mathlib.Omega.{arith}
 use native.Mathlib.Decide.{ℕ-discrete}
 use borrow.Author.Tests.{eq-eqb, eqb-true}
 use lib.Dec.{eqb}
-use Rattle.image.specs.Stalls.{some}
+use Rattle.image.specs.Stalls.{some, count}
 use Rattle.image.specs.Layout.{labelLimit}
 use Rattle.image.specs.Encode.{Table}
 use Rattle.image.specs.Made.{NameIn}
@@ -18,11 +18,12 @@ use Rattle.image.specs.declared.Name.{Name}
 use Rattle.image.specs.declared.Name.the-variants.{Never, With}
 use Rattle.image.proofs.Tables.{none-at}
 use Rattle.image.proofs.Passing.{and-holds, or-holds, some-holds, some-fails}
+use Rattle.image.proofs.Counts.{count-below, count-some, count-none}
 use Rattle.merge.specs.Known.{sameMeeting, common, known}
 use Rattle.merge.specs.Verdict.{judge, verdict, undecided, sameName}
-use Rattle.merge.specs.Label.{isMeeting, rowHas, labelUsed, count, newLabel}
+use Rattle.merge.specs.Label.{isMeeting, rowHas, labelUsed, newLabel}
 use Rattle.merge.proofs.Heads.{Heads}
-use Rattle.merge.proofs.label.Counting.{columnHas, tableHas, count-none, count-some, count-below, count-column, count-heads, count-second, count-names}
+use Rattle.merge.proofs.label.Counting.{columnHas, tableHas, count-column, count-heads, count-second, count-names}
 use Rattle.merge.proofs.label.NewLabel.{newLabel-lowest, newLabel-limit}
 
 -- a column without names uses no label
