@@ -5,5 +5,7 @@ pub mod Stores
 pub mod Records
 pub mod HeardLists
 pub mod HeardCalls
+pub mod SettledCounts
+pub mod SettledLaws
 pub mod Milked
 pub mod Theory

@@ -15,6 +15,7 @@ use Rattle.head.specs.Calls.{refused, accepted as done, withCurrent, mil
 use Rattle.head.specs.Theory.{Theory}
 use Rattle.head.proofs.Milking.{milking-over}
 use Rattle.head.proofs.Milked.{milked-accepted}
+use Rattle.head.proofs.SettledLaws.{settled-long, settled-most, settled-heard}
 
 stays : (s : List ℕ) (yield : ℕ) → checked (milkingCall s yield .image) ≡ checked s
 unfolding milkingCall milked
@@ -29,4 +30,11 @@ stays s yield = go (checked s) refl
         over false f = checked-accepted (milked-accepted s yield (accepted s h e) (ltb-false yieldLimit yield f))
 
 pub theory : Theory
-theory = record { milked-accepted = stays; not-milked-refused = λ s h e. sym (milking-over s noYield e none-over) }
+theory =
+    record {
+      milked-accepted = stays;
+      not-milked-refused = λ s h e. sym (milking-over s noYield e none-over);
+      settled-long = settled-long;
+      settled-most = settled-most;
+      settled-heard = λ s n own e. settled-heard (accepted s _ e);
+    }

@@ -5,6 +5,7 @@ ghost use lib.ListN.{length, take};
 ghost use Rattle.image.specs.Layout.{longest};
 ghost use Rattle.head.specs.Calls.{Outcome, freshCall, milkingCall};
 ghost use Rattle.head.specs.Heard.{HeardCall};
+ghost use Rattle.head.specs.Settled.{Settled, settledCall};
 ghost use Rattle.image.specs.Check.{checked, numberOf};
 ghost use Rattle.merge.specs.Call.{MeetingOutcome, meetingCall};
 use image::Checked;
@@ -12,6 +13,7 @@ use image::Head;
 use image::LONGEST;
 
 mod heard;
+mod settled;
 
 // The number of the first check that fails, 0 where none does.
 #[no_mangle]
@@ -85,6 +87,23 @@ pub extern "C" fn wilbryn_heard(image: &[u8], records: &mut [u8]) -> u32
         return 264;
     }
     heard::heard_list(image, n, own, records)
+}
+
+// For each stall, how many stalls the head knows to have heard its latest of that stall.
+#[no_mangle]
+pub extern "C" fn wilbryn_settled(image: &[u8], counts: &mut [u8]) -> u32
+    ensures { λ r. ⌜ _≡_ {A = Settled} (record { answer = r; counts = now (counts .exit) }) (settledCall (now (image .entry)) (now (counts .entry))) ⌝ }
+{
+    let c = image::check(image);
+    let Checked::Good(h) = c else {
+        return image::number_of(c);
+    };
+    let n = image::bytes::wide(h.n);
+    if counts.len() != n {
+        return 8;
+    }
+    settled::put_counts(image, n, counts);
+    0
 }
 
 // The label of a meeting, or 256 plus the number of its refusal.

@@ -10,9 +10,10 @@ use Rattle.image.proofs.Accepted.{Accepted}
 use Rattle.merge.specs.Call.{MeetingOutcome, meetingCall}
 use Rattle.merge.proofs.meeting.Outcomes.{kept}
 use Rattle.head.specs.Heard.{HeardFrom, HeardCall}
+use Rattle.head.specs.Settled.{settledFrom, settledCall}
 use Rattle.packed.specs.Form.{packedImageLength, packed, unpacked}
 use Rattle.packed.specs.Check.{packedChecked}
-use Rattle.packed.specs.Calls.{PackedHeardCall, packedMeetingCall}
+use Rattle.packed.specs.Calls.{PackedHeardCall, packedSettledCall, packedMeetingCall}
 use Rattle.packed.specs.Bytes.{packedOf, plainOf}
 use Rattle.packed.proofs.Small.{Small}
 use Rattle.packed.proofs.Forms.{packed-is}
@@ -29,6 +30,16 @@ heard-handed {s} {buffer} {out} {answer} w =
     go : (x : Checked) → packedChecked s ≡ x → HeardFrom (plainOf s) buffer answer out x → HeardFrom (unpacked s) buffer answer out x
     go (Good h) e v = subst (λ l. HeardFrom l buffer answer out (Good h)) (good-packed s e .plain) v
     go (Refused number) e v = v
+
+-- The numbers
+
+pub settled-handed : (s buffer : List ℕ) → settledCall (plainOf s) buffer ≡ packedSettledCall s buffer
+unfolding settledFrom
+settled-handed s buffer = ap (settledFrom (plainOf s) buffer) (checked-plain s) ∙ go (packedChecked s) refl
+  where
+    go : (x : Checked) → packedChecked s ≡ x → settledFrom (plainOf s) buffer x ≡ settledFrom (unpacked s) buffer x
+    go (Good h) e = ap (λ l. settledFrom l buffer (Good h)) (good-packed s e .plain)
+    go (Refused number) e = refl
 
 -- A meeting: the plain one of what is handed leaves x, y and v
 

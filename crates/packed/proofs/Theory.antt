@@ -11,6 +11,7 @@ use Rattle.image.proofs.AcceptedMade.{accepted-made}
 use Rattle.image.proofs.MadeAccepted.{made-accepted}
 use Rattle.merge.proofs.Theory as merge
 use Rattle.head.specs.Heard.{HeardFrom, HeardCall}
+use Rattle.head.specs.Settled.{settledFrom}
 use Rattle.head.proofs.Theory as head
 use Rattle.packed.specs.Form.{packed, unpacked}
 use Rattle.packed.specs.Check.{packedChecked}
@@ -56,6 +57,7 @@ theory =
       fresh-refused = fresh-refused;
       milking-same = milking-same;
       heard-same = heard-same;
+      settled-same = λ s buffer. ap (settledFrom (unpacked s) buffer) (sym (checked-unpacked s));
       meeting-same = meeting-same;
       milking-refused = milking-refused;
       meeting-refused = meeting-refused;

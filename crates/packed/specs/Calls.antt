@@ -13,6 +13,7 @@ use Rattle.image.specs.declared.Checked.the-variants.{Good, Refused}
 use Rattle.merge.specs.Call.{MeetingOutcome, meetingCall}
 use Rattle.head.specs.Calls.{Outcome, refused, accepted, freshInto, milked}
 use Rattle.head.specs.Heard.{HeardFrom}
+use Rattle.head.specs.Settled.{Settled, settledFrom}
 use Rattle.packed.specs.Form.{packedLength, packedImage, packed, unpacked}
 use Rattle.packed.specs.Check.{packedChecked}
 
@@ -39,6 +40,10 @@ packedMilkingCall s yield = milked s yield (packedChecked s)
 -- the heard list: that of the unpacked form
 pub record PackedHeardCall (s buffer : List ℕ) (answer : ℕ) (out : List ℕ) : Type 0 where
   pub heard : HeardFrom (unpacked s) buffer answer out (packedChecked s)
+
+-- who has heard it all (request 2026-05): the numbers of the unpacked form
+abbrev pub packedSettledCall : List ℕ → List ℕ → Settled
+packedSettledCall s buffer = settledFrom (unpacked s) buffer (packedChecked s)
 
 -- a meeting: that of the unpacked forms; a label, and what the plain meeting leaves, packed; or 256 plus a number, and every lent byte as before
 unfoldable pub packedAfter : List ℕ → List ℕ → List ℕ → MeetingOutcome → MeetingOutcome

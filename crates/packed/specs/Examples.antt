@@ -1,15 +1,18 @@
--- The packed forms of the listing's image and of fresh images, and what packed images are refused with, by evaluation.
+-- The packed forms of the listing's image and of fresh images, the numbers of request 2026-05, and what packed images are refused with, by evaluation.
 use Prim.Native.Nat.{ℕ}
 use mathlib.Core.Path.{_≡_, refl}
 use mathlib.Core.List.{List, [], _∷_, _++_, map}
 use lib.ListN.{replicate}
+use Rattle.image.specs.Stalls.{count}
 use Rattle.image.specs.Encode.{nothing}
 use Rattle.image.specs.Fresh.{freshImage}
 use Rattle.image.specs.Check.{numberOf}
 use Rattle.image.specs.Examples as Plain
 use Rattle.image.specs.Examples.{listing, notMilked, withLabel}
+use Rattle.head.specs.Settled.{settledCounts, settledFrom}
 use Rattle.packed.specs.Form.{packedLength, nameByte, packedImage, packed, nameOf, unpackedRow, unpackedOf, unpacked}
 use Rattle.packed.specs.Check.{badPackedLength, packedChecked}
+use Rattle.packed.specs.Calls.{packedSettledCall}
 
 -- whoever unfolds this unfolds all that a packed image is made, read and checked with
 unfoldable pub evaluated : Unit {0}
@@ -33,6 +36,12 @@ packedListing =
 listing-examples : (packed listing ≡ packedListing) × (unpacked packedListing ≡ listing)
 unfolding evaluated
 listing-examples = (refl, refl)
+
+-- the numbers of its order bytes, 7, 6 and 6; a buffer of 2 bytes is 8, and stays as it was
+settled-examples : (packedSettledCall packedListing (9 ∷ 9 ∷ 9 ∷ []) ≡ record { answer = 0; counts = 3 ∷ 2 ∷ 2 ∷ [] })
+    × (packedSettledCall packedListing (9 ∷ 9 ∷ []) ≡ record { answer = 8; counts = 9 ∷ 9 ∷ [] })
+unfolding evaluated count settledCounts settledFrom
+settled-examples = (refl, refl)
 
 -- a fresh head: no name in any column
 fresh-examples : (packedImage 2 1 nothing ≡ (2 ∷ 1 ∷ notMilked 1) ++ (0x00 ∷ 0x20 ∷ 0x00 ∷ 0x20 ∷ []) ++ notMilked 2 ++ replicate 2 0)

@@ -15,9 +15,10 @@ use Rattle.image.specs.declared.Checked.the-variants.{Good, Refused}
 use Rattle.merge.specs.Call.{meetingCall}
 use Rattle.head.specs.Calls.{Outcome, freshCall, milkingCall}
 use Rattle.head.specs.Heard.{HeardCall}
+use Rattle.head.specs.Settled.{settledCall}
 use Rattle.packed.specs.Form.{labels, packedLength, packedPlace, packedImage, packed, unpacked}
 use Rattle.packed.specs.Check.{badPackedLength, packedChecked}
-use Rattle.packed.specs.Calls.{packedFreshCall, packedMilkingCall, PackedHeardCall, packedMeetingCall}
+use Rattle.packed.specs.Calls.{packedFreshCall, packedMilkingCall, PackedHeardCall, packedSettledCall, packedMeetingCall}
 
 -- the packed image passes, as that of the head at stall own of n heads
 abbrev pub PackedPasses : List ℕ → ℕ → ℕ → Type 0
@@ -48,6 +49,8 @@ pub record Theory : Type 0 where
       (o .answer ≡ m .answer) × (unpacked (o .image) ≡ m .image)
   -- "list" is the heard list: what the call may answer and write is what the plain one may;
   pub heard-same : (s buffer : List ℕ) (answer : ℕ) (out : List ℕ) → PackedHeardCall s buffer answer out ↔ HeardCall (unpacked s) buffer answer out
+  -- the numbers of request 2026-05 are those of the unpacked form, and so is what refuses them;
+  pub settled-same : (s buffer : List ℕ) → packedSettledCall s buffer ≡ settledCall (unpacked s) buffer
   -- a meeting has the same answer and verdicts, and leaves what unpacks to the two plain images.
   pub meeting-same : (s u buffer : List ℕ) → let o = packedMeetingCall s u buffer in let m = meetingCall (unpacked s) (unpacked u) buffer in
       (o .answer ≡ m .answer) × (unpacked (o .first) ≡ m .first) × (unpacked (o .second) ≡ m .second) × (o .verdicts ≡ m .verdicts)

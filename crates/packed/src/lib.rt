@@ -3,14 +3,16 @@ ghost use mathlib.Core.Path.{_≡_};
 ghost use Rattle.image.specs.Check.{numberOf};
 ghost use Rattle.merge.specs.Call.{MeetingOutcome};
 ghost use Rattle.head.specs.Calls.{Outcome};
+ghost use Rattle.head.specs.Settled.{Settled};
 ghost use Rattle.packed.specs.Form.{packedLength};
 ghost use Rattle.packed.specs.Check.{packedChecked};
-ghost use Rattle.packed.specs.Calls.{packCall, unpackCall, packedFreshCall, packedMilkingCall, PackedHeardCall, packedMeetingCall};
+ghost use Rattle.packed.specs.Calls.{packCall, unpackCall, packedFreshCall, packedMilkingCall, PackedHeardCall, packedSettledCall, packedMeetingCall};
 use crate::pack::pack_image;
 use crate::plain::check_into;
 use crate::plain::heard_into;
 use crate::plain::meet_into;
 use crate::plain::room;
+use crate::plain::settled_into;
 use crate::unpack::plain_length;
 use crate::unpack::unpack_image;
 use image::Checked;
@@ -132,6 +134,16 @@ pub extern "C" fn wilbryn_packed_heard(packed: &[u8], records: &mut [u8]) -> u32
     let mut image = room();
     let count = plain_length(packed);
     heard_into(packed, &mut image[..count], records)
+}
+
+// For each stall, how many stalls the head knows to have heard its latest of that stall.
+#[no_mangle]
+pub extern "C" fn wilbryn_packed_settled(packed: &[u8], counts: &mut [u8]) -> u32
+    ensures { λ r. ⌜ _≡_ {A = Settled} (record { answer = r; counts = now (counts .exit) }) (packedSettledCall (now (packed .entry)) (now (counts .entry))) ⌝ }
+{
+    let mut image = room();
+    let count = plain_length(packed);
+    settled_into(packed, &mut image[..count], counts)
 }
 
 // The label of a meeting, or 256 plus the number of its refusal.

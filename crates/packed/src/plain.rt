@@ -4,9 +4,10 @@ ghost use lib.ListN.{length, getD};
 ghost use Rattle.image.specs.Layout.{longest};
 ghost use Rattle.image.specs.Frame.{Sized};
 ghost use Rattle.merge.specs.Call.{MeetingOutcome};
+ghost use Rattle.head.specs.Settled.{Settled};
 ghost use Rattle.packed.specs.Form.{packedImageLength};
 ghost use Rattle.packed.specs.Check.{packedChecked};
-ghost use Rattle.packed.specs.Calls.{PackedHeardCall, packedMeetingCall};
+ghost use Rattle.packed.specs.Calls.{PackedHeardCall, packedSettledCall, packedMeetingCall};
 ghost use Rattle.packed.specs.Bytes.{packedOf, plainOf};
 use crate::pack::pack_image;
 use crate::unpack::unpack_into;
@@ -37,6 +38,15 @@ pub(crate) fn heard_into(packed: &[u8], image: &mut [u8], records: &mut [u8]) ->
 {
     unpack_into(packed, image);
     head::wilbryn_heard(image, records)
+}
+
+// The numbers.
+pub(crate) fn settled_into(packed: &[u8], image: &mut [u8], counts: &mut [u8]) -> u32
+    requires { ⌜ length (now image) ≡ length (plainOf (now packed)) ⌝ }
+    ensures { λ r. ⌜ _≡_ {A = Settled} (record { answer = r; counts = now (counts .exit) }) (packedSettledCall (now (packed .entry)) (now (counts .entry))) ⌝ }
+{
+    unpack_into(packed, image);
+    head::wilbryn_settled(image, counts)
 }
 
 // Both images of a parlour, packed.
