@@ -8,10 +8,10 @@ use Rattle.causality.specs.Event.{History, Of}
 use Rattle.causality.specs.Past.{Past, View}
 use Rattle.causality.specs.Clock.{latest, latestIn}
 use Rattle.causality.specs.Best.{best}
-use Rattle.causality.specs.Known.{Known, none-heard, common}
+use Rattle.causality.specs.Known.{Order, Known, none-heard, common}
 use Rattle.causality.proofs.Newer.{newer-first, newer-second, newer-equal}
 use Rattle.causality.proofs.Events.{of-dec}
-use Rattle.causality.proofs.Pasts.{past-pos, past-le, past-refl, past-trans, comparable, view-own}
+use Rattle.causality.proofs.Pasts.{past-pos, past-le, past-refl, past-trans, comparable, last-le, last-of, view-own}
 use Rattle.causality.proofs.Clocks.{latest-le, latest-of, latest-view, latest-ge, latest-apart, latest-own, latest-max, latestIn-of, latestIn-past, latestIn-ge}
 use Rattle.causality.proofs.Common.{common-event}
 
@@ -117,3 +117,19 @@ was-latest h (suc n) m z s l a b =
 pub unordered : (h : History) (n p q r s : ℕ) → latest h n q r < latest h n p r → Past h (latest h n p r) (latest h n q s) → ⊥
 unordered h n p q r s l c =
     omega (arith, latest-ge h n q r (latest-of h n p r (past-pos c)) (past-trans c (latest-view h n q s (omega (arith, past-pos c, past-le c)))))
+
+-- What p knows q to have heard, q has: p's latest of q is an event of q, so whatever lies in its past lies in the view of q from then on
+pub ordered-heard : (h : History) (n m p q r : ℕ) → n ≤ m → Order h n p r q → latest h n p r ≤ latest h m q r
+ordered-heard h n m p q r l c =
+    latest-ge h m q r (latest-of h n p r (past-pos c))
+    (view-own h m q (latest-of h n p q (omega (arith, past-pos c, past-le c))) (omega (arith, latest-le h n p q)) c)
+
+-- and p's own latest of q only moves on, to what has the older one in its past
+pub order-stays : (h : History) (n m p q r : ℕ) → n ≤ m → latest h m p r ≡ latest h n p r → Order h n p r q → Order h m p r q
+order-stays h n m p q r l e c =
+    let pos : 0 < latest h n p q = omega (arith, past-pos c, past-le c) in
+    let of-q = latest-of h n p q pos in
+    let seen = latest-view h n p q pos in
+    let still = view-own h m p (last-of h n p (omega (arith, past-pos seen, past-le seen))) (omega (arith, last-le h n p)) seen in
+    let on = latest-ge h m p q of-q still in
+    subst (λ k. Past h k (latest h m p q)) (sym e) (past-trans c (comparable of-q (latest-of h m p q (omega arith)) on))

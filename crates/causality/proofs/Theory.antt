@@ -10,7 +10,7 @@ use Rattle.causality.proofs.Clocks.{best-pasts, past-test, past-dec, la
 use Rattle.causality.proofs.Agreement.{agree-sym, past-agree, last-agree, latest-agree}
 use Rattle.causality.proofs.GoodPaths.{path-latest, path-best}
 use Rattle.causality.proofs.Common.{common-event}
-use Rattle.causality.proofs.Knowledge.{known-view, known-le, only-first-known, only-second-known, both-known, both-known-same, one-is-known, secondary, was-latest, unordered}
+use Rattle.causality.proofs.Knowledge.{known-view, known-le, only-first-known, only-second-known, both-known, both-known-same, one-is-known, secondary, was-latest, unordered, ordered-heard, order-stays}
 use Rattle.causality.proofs.MessagePasts.{past-iff-below}
 
 pub theory : (h : History) → Theory h
@@ -47,6 +47,8 @@ theory h =
       was-latest = was-latest h;
       own-row = latest-self h;
       unordered = unordered h;
+      ordered-heard = ordered-heard h;
+      order-stays = order-stays h;
     }
 
 pub message-theory : (N : ℕ) (u : ℕ → Action) → MessageTheory N u

@@ -8,7 +8,7 @@ use Rattle.causality.specs.Past.{Past, last, View}
 use Rattle.causality.specs.Latest.{LatestIn, Latest}
 use Rattle.causality.specs.Clock.{latest, latestIn, inPast}
 use Rattle.causality.specs.Best.{best, bestIn}
-use Rattle.causality.specs.Known.{Known, CommonEvent}
+use Rattle.causality.specs.Known.{Order, Known, CommonEvent}
 use Rattle.causality.specs.GoodPath.{LatestByPath, BestByPath, Winner, winner}
 use Rattle.causality.specs.Meetings.{Agree}
 use Rattle.causality.specs.Messages.{Action, messages, Computation, Below}
@@ -59,6 +59,10 @@ pub record Theory (h : History) : Type 0 where
   -- 7. Row s is the same for all who have the same latest of s; what p alone has newer lies in the past of nothing that q has.
   pub own-row : (n p r : ℕ) → latest h n p r ≡ latestIn h (latest h n p p) r
   pub unordered : (n p q r s : ℕ) → latest h n q r < latest h n p r → Past h (latest h n p r) (latest h n q s) → ⊥
+  -- 9. What p knows q to have heard, q has heard: where p's latest of r lies in the past of its latest of q, q has that event of r or a newer one at every moment since.
+  pub ordered-heard : (n m p q r : ℕ) → n ≤ m → Order h n p r q → latest h n p r ≤ latest h m q r
+  -- And p still knows it, as long as its latest of r is the same.
+  pub order-stays : (n m p q r : ℕ) → n ≤ m → latest h m p r ≡ latest h n p r → Order h n p r q → Order h m p r q
 
 -- For messages that go one way the past is document 004's order of events.
 pub record MessageTheory (N : ℕ) (u : ℕ → Action) : Type 0 where

@@ -5,4 +5,5 @@ mod Exact
 mod Claims
 mod Existence
 mod Compared
+mod SettledTables
 pub mod Theory

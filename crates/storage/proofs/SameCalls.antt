@@ -2,7 +2,7 @@
 use Prim.Native.Nat.{ℕ}
 use mathlib.Core.Path.{_≡_, refl, ap, _∙_}
 use mathlib.Core.Bool.{cond, _&&_}
-use mathlib.Core.List.{List, [], _∷_, _++_}
+use mathlib.Core.List.{List, [], _∷_, map-append}
 use Rattle.parlour.specs.Run.{Called}
 use Rattle.parlour.specs.Claim.{isAccepted, items, CallOf}
 use Rattle.parlour.specs.Verdict.{acceptedItems}
@@ -30,10 +30,6 @@ same-parts (c ∷ calls) r =
     ap (λ l. cond (isAccepted (c .item) (c .answer) && isOf (c .item) r) (record { did = act (c .item) r; answer = seenBy r (c .item) (answerOf c) } ∷ l) l) (same-parts calls r)
 
 -- a call of the list is one of the list unpacked
-unpacked-append : (l m : List Called) → unpackedCalls (l ++ m) ≡ unpackedCalls l ++ unpackedCalls m
-unpacked-append [] m = refl
-unpacked-append (c ∷ l) m = ap (λ k. unpackedCall c ∷ k) (unpacked-append l m)
-
 pub call-of : {calls : List Called} {c : Called} {earlier : List Called} → CallOf calls c earlier → CallOf (unpackedCalls calls) (unpackedCall c) (unpackedCalls earlier)
 call-of {c = c} {earlier = earlier} o =
-    record { later = unpackedCalls (o .later); split = ap unpackedCalls (o .split) ∙ unpacked-append (o .later) (c ∷ earlier) }
+    record { later = unpackedCalls (o .later); split = ap unpackedCalls (o .split) ∙ map-append unpackedCall (o .later) (c ∷ earlier) }

@@ -3,11 +3,13 @@ use Prim.Native.Nat.{ℕ}
 use Rattle.packed.proofs.wilbryn_packed_fresh.Met as fresh
 use Rattle.packed.proofs.wilbryn_packed_milking.Met as milked
 use Rattle.packed.proofs.wilbryn_packed_meeting.Met as met
+use Rattle.packed.proofs.wilbryn_packed_settled.Met as packed-settled
 use Rattle.storage.specs.Theory.{Theory, Returns}
 use Rattle.storage.proofs.Unpacking.{unpacked-run}
 use Rattle.storage.proofs.Claims.{claim, verdicts-are-best}
 use Rattle.storage.proofs.Existence.{runs-exist}
 use Rattle.storage.proofs.Compared.{same-answers, traced}
+use Rattle.storage.proofs.SettledTables.{settled}
 
 pub theory : (n : ℕ) → Theory n
 theory n =
@@ -18,7 +20,8 @@ theory n =
       verdicts-are-best = λ calls images. verdicts-are-best;
       runs-exist = runs-exist n;
       traced = traced n;
+      settled = settled n;
     }
 
 pub returns : Returns
-returns = record { fresh = fresh.met; milking = milked.met; meeting = met.met }
+returns = record { fresh = fresh.met; milking = milked.met; meeting = met.met; settled = packed-settled.met }

@@ -7,6 +7,7 @@ use Rattle.image.specs.Layout.{largest}
 use Rattle.packed.proofs.wilbryn_packed_fresh.Statement as fresh
 use Rattle.packed.proofs.wilbryn_packed_milking.Statement as milked
 use Rattle.packed.proofs.wilbryn_packed_meeting.Statement as met
+use Rattle.packed.proofs.wilbryn_packed_settled.Statement as settled
 use Rattle.packed.specs.Form.{packed}
 use Rattle.parlour.specs.Item.{Item}
 use Rattle.parlour.specs.Run.{Images, Called, Run}
@@ -15,7 +16,8 @@ use Rattle.parlour.specs.Verdict.{VerdictsAreBest}
 use Rattle.parlour.specs.Theory.{Items, RunOf}
 use Rattle.traces.specs.Answer.{answers}
 use Rattle.traces.specs.Theory as Traces
-use Rattle.storage.specs.Run.{packedCalls, PackedRun, unpackedImages, unpackedCalls}
+use Rattle.settled.specs.Theory as Settled
+use Rattle.storage.specs.Run.{packedCalls, PackedRun, packedForm, unpackedImages, unpackedCalls}
 use Rattle.storage.specs.Claim.{PackedClaim}
 
 pub record Theory (n : ℕ) : Type 0 where
@@ -33,9 +35,12 @@ pub record Theory (n : ℕ) : Type 0 where
   pub runs-exist : 2 ≤ n → n ≤ largest → (list : List Item) → Items n list → RunOf packedCalls n list
   -- Request 2026-03, "Which head was named first", of packed tables: either end of the cable, neighbours that trade places, each head's own order.
   pub traced : Traces.Theory packedCalls n
+  -- Request 2026-05, "Who has heard it all", of packed tables: the numbers are those of the history, and where one is N, every head has that meeting or a newer one ever after.
+  pub settled : Settled.Theory packedForm n
 
--- The three functions meet their contracts: each call is safe, returns, and what was read of its contract holds.
+-- The four functions meet their contracts: each call is safe, returns, and what was read of its contract holds.
 pub record Returns : Type 2 where
   pub fresh : {M : Type 1} → fresh.statement M
   pub milking : {M : Type 1} → milked.statement M
   pub meeting : {M : Type 1} → met.statement M
+  pub settled : {M : Type 1} → settled.statement M
