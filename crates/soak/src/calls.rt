@@ -80,6 +80,15 @@ pub fn milking(images: &mut [u8], n: u16, stall: u16, given: u16) -> u32 {
     answer
 }
 
+// The numbers of what is settled. The buffer is the first bytes of a longer run.
+pub fn settled(images: &[u8], n: u16, stall: u16, counts: &mut [u8], buffer: u16) -> u32 {
+    let mut image = room();
+    load(images, stall, &mut image);
+    let len = fitting(image_length(n), &image);
+    let lent = fitting(buffer as usize, counts);
+    head::wilbryn_settled(&image[..len], &mut counts[..lent])
+}
+
 // The call itself. Images and buffer are the first bytes of longer runs.
 fn meet(one: &mut [u8], two: &mut [u8], n: u16, verdicts: &mut [u8], buffer: u16) -> u32 {
     let one_len = fitting(image_length(n), one);

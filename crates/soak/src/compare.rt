@@ -3,6 +3,7 @@ use crate::calls;
 use crate::history;
 use crate::history::Named;
 use crate::random::Item;
+use crate::settled;
 use crate::table;
 use crate::words::same;
 
@@ -17,6 +18,7 @@ pub enum Difference {
     Answer,
     Verdicts,
     Image(u16),
+    Counts(u16),
     Names,
 }
 
@@ -112,6 +114,10 @@ pub fn compare(
     let head = wrong_image(history, images, n);
     if head != 0 {
         return Difference::Image(head);
+    }
+    let head = settled::wrong_counts(history, images, n);
+    if head != 0 {
+        return Difference::Counts(head);
     }
     if is_ambiguous(history, n) {
         return Difference::Names;

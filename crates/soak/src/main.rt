@@ -1,11 +1,13 @@
 // Long pseudo-random lists of milkings and meetings for every size of a parlour, through the calls of
-// a head and through a history program written from document 01 alone. Prints for each size how many
-// items there were, how many of them counted or were refused, and how many lists differed.
+// a head and through a history program written from document 01 and its requests alone. Prints for
+// each size how many items there were, how many of them counted or were refused, how many numbers of
+// what is settled were n, and how many lists differed.
 mod calls;
 mod compare;
 mod history;
 mod random;
 mod report;
+mod settled;
 mod table;
 mod words;
 
@@ -24,6 +26,7 @@ struct Tally {
     refused_milkings: u64,
     refused_meetings: u64,
     largest_label: u32,
+    settled: u64,
     differences: u64,
 }
 
@@ -74,6 +77,7 @@ fn step(
     let got = compare::done(images, n, item);
     let difference = compare::compare(history, images, n, wanted, got);
     let mut tally = noted(tally, item, got.answer);
+    tally.settled = std::num::wrapping_add_u64(tally.settled, settled::settled_count(history, n));
     if let Difference::Nothing = difference {
         return tally;
     }
@@ -120,6 +124,7 @@ fn run_lists(history: &mut [u16], images: &mut [u8], random: &mut u64, n: u16) -
         refused_milkings: 0,
         refused_meetings: 0,
         largest_label: 0,
+        settled: 0,
         differences: 0,
     };
     let mut list = 0u16;
@@ -139,7 +144,8 @@ fn say_tally(n: u16, tally: Tally) {
     say_number(b" meetings, refused ", tally.refused_milkings);
     say_number(b" with 4 and ", tally.refused_meetings);
     say_number(b" with 8; largest label ", tally.largest_label as u64);
-    say_number(b"; ", tally.differences);
+    say_number(b", ", tally.settled);
+    say_number(b" numbers of n; ", tally.differences);
     say(b" differences\n");
 }
 

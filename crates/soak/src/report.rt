@@ -4,6 +4,7 @@ use crate::compare::Difference;
 use crate::compare::Outcome;
 use crate::history;
 use crate::random::Item;
+use crate::settled;
 use crate::table;
 use crate::words::get_byte;
 
@@ -77,6 +78,24 @@ fn say_image(history: &[u16], images: &[u8], n: u16, head: u16) {
     say_hex(b"    got    ", &image);
 }
 
+// What the call answers and writes for a buffer of a length.
+fn say_settled(images: &[u8], n: u16, head: u16, buffer: u16) {
+    let mut counts = [calls::UNWRITTEN; 16];
+    let answer = calls::settled(images, n, head, &mut counts, buffer);
+    say_number(b"    buffer ", buffer as u64);
+    say_number(b": answer ", answer as u64);
+    say_hex(b", got ", &counts);
+}
+
+fn say_counts(history: &[u16], images: &[u8], n: u16, head: u16) {
+    let mut wanted = [calls::UNWRITTEN; 16];
+    settled::put_counts(history, n, head, &mut wanted);
+    say_number(b"  settled numbers of head ", head as u64);
+    say_hex(b"\n    wanted ", &wanted);
+    say_settled(images, n, head, n);
+    say_settled(images, n, head, settled::longer(n));
+}
+
 // The item, the meetings that led to it, and what was wanted and got.
 pub fn say_difference(
     history: &[u16],
@@ -94,6 +113,7 @@ pub fn say_difference(
     say_outcome(wanted, got);
     match difference {
         Difference::Image(head) => say_image(history, images, n, head),
+        Difference::Counts(head) => say_counts(history, images, n, head),
         Difference::Names => say(b"  two own rows have different meetings under one name\n"),
         _ => {}
     }
