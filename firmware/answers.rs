@@ -1,14 +1,17 @@
-//! The line program of document 01 in plain Rust, over the model: what each line is answered.
+//! The line program of document 01 with request 2026-05 in plain Rust, over the model: what each
+//! line is answered.
 
 use crate::model::{Form, Table, NOT_MILKED};
 
 /// A line that has a meaning.
+#[derive(Clone, Copy)]
 enum Frame {
     Opening(u8),
     Milking(u8, u16),
     Meeting(u8, u8),
     Image(u8),
     Heard(u8),
+    Settled(u8),
 }
 
 /// The bytes of a line, if it is whole pairs of digits.
@@ -25,6 +28,7 @@ fn frame(line: &[u8]) -> Option<Frame> {
         [3, first, second] => Some(Frame::Meeting(first, second)),
         [4, stall] => Some(Frame::Image(stall)),
         [5, stall] => Some(Frame::Heard(stall)),
+        [6, stall] => Some(Frame::Settled(stall)),
         _ => None,
     }
 }
@@ -34,14 +38,34 @@ pub struct Answer {
     pub text: Vec<u8>,
     /// 0, or the number of the refusal.
     pub number: u8,
-    /// Whether the text ends in records, whose order is open.
-    records: bool,
+    /// What the line asks for, if it has a meaning.
+    frame: Option<Frame>,
 }
 
 impl Answer {
     pub fn fits(&self, written: &[u8]) -> bool {
         written == self.text
-            || self.records && written.len() == self.text.len() && by_stall(written) == self.text
+            || self.has_records()
+                && written.len() == self.text.len()
+                && by_stall(written) == self.text
+    }
+
+    /// Whether the text ends in records, whose order is open.
+    fn has_records(&self) -> bool {
+        self.number == 0 && matches!(self.frame, Some(Frame::Heard(_)))
+    }
+
+    /// Whether the line asks what is settled, taken or refused.
+    pub fn is_of_settled(&self) -> bool {
+        matches!(self.frame, Some(Frame::Settled(_)))
+    }
+
+    /// Whether it says of a meeting that all stalls have heard it. There are as many numbers as
+    /// stalls.
+    pub fn shows_settled(&self) -> bool {
+        let numbers = &self.text[2..];
+        let all = digits(&[(numbers.len() / 2) as u8]);
+        self.is_of_settled() && numbers.chunks(2).any(|number| number == all)
     }
 
     /// Whether it is a heard list with a cow that gave nothing beside a head that was not milked.
@@ -50,7 +74,7 @@ impl Answer {
             let value = digits(&value.to_be_bytes());
             self.text[4..].chunks(6).any(|record| record[2..] == value)
         };
-        self.records && shows(0) && shows(NOT_MILKED)
+        self.has_records() && shows(0) && shows(NOT_MILKED)
     }
 }
 
@@ -75,10 +99,9 @@ pub struct Lines {
 impl Lines {
     pub fn answer(&mut self, line: &[u8]) -> Answer {
         let frame = frame(line);
-        let records = matches!(frame, Some(Frame::Heard(_)));
         match self.reply(frame) {
-            Ok(more) => Answer { text: digits(&[&[0], &more[..]].concat()), number: 0, records },
-            Err(number) => Answer { text: digits(&[number]), number, records: false },
+            Ok(more) => Answer { text: digits(&[&[0], &more[..]].concat()), number: 0, frame },
+            Err(number) => Answer { text: digits(&[number]), number, frame },
         }
     }
 
@@ -94,6 +117,7 @@ impl Lines {
             Frame::Meeting(first, second) => self.meet(first, second),
             Frame::Image(stall) => Ok(self.images[self.place(stall)?].clone()),
             Frame::Heard(stall) => self.heard(stall),
+            Frame::Settled(stall) => self.settled(stall),
         }
     }
 
@@ -145,6 +169,15 @@ impl Lines {
         match Form::Plain.heard(&self.images[self.place(stall)?], &mut records) {
             count @ 0..=255 => Ok([&[count as u8], &records[..3 * count as usize]].concat()),
             refused => Err((refused - 256) as u8),
+        }
+    }
+
+    /// Request 2026-05: "Line kind `06` with a stall answers `00`, then for each stall the number".
+    fn settled(&self, stall: u8) -> Result<Vec<u8>, u8> {
+        let mut numbers = vec![0; self.images.len() - 1];
+        match Form::Plain.settled(&self.images[self.place(stall)?], &mut numbers) {
+            0 => Ok(numbers),
+            number => Err(number as u8),
         }
     }
 }

@@ -1,6 +1,6 @@
-/* Times the check and the meeting of wilbryn.h against the plain and the expert version on the same
-   images, then those on packed images against the plain version and against wilbryn.h's own on the
-   unpacked ones; and measures the stack that they touch. */
+/* Times the check, what is settled and the meeting of wilbryn.h against the plain and the expert
+   version on the same images, then those on packed images against the plain version and against
+   wilbryn.h's own on the unpacked ones; and measures the stack that they touch. */
 #define _XOPEN_SOURCE 700
 #include "wilbryn.h"
 
@@ -15,6 +15,7 @@ extern __typeof__(wilbryn_milking) plain_milking;
 extern __typeof__(wilbryn_pack) plain_pack;
 extern __typeof__(wilbryn_unpack) plain_unpack;
 extern __typeof__(wilbryn_check) plain_check, expert_check, plain_packed_check;
+extern __typeof__(wilbryn_settled) plain_settled, expert_settled, plain_packed_settled;
 extern __typeof__(wilbryn_meeting) plain_meeting, expert_meeting, plain_packed_meeting;
 
 enum form { UNPACKED, PACKED, FORMS };
@@ -26,19 +27,20 @@ struct version {
     const char *name;
     enum form form;
     __typeof__(wilbryn_check) *check;
+    __typeof__(wilbryn_settled) *settled;
     __typeof__(wilbryn_meeting) *meeting;
 };
 
 static const struct version on_images[VERSIONS] = {
-    {"plain", UNPACKED, plain_check, plain_meeting},
-    {"expert", UNPACKED, expert_check, expert_meeting},
-    {"wilbryn", UNPACKED, wilbryn_check, wilbryn_meeting},
+    {"plain", UNPACKED, plain_check, plain_settled, plain_meeting},
+    {"expert", UNPACKED, expert_check, expert_settled, expert_meeting},
+    {"wilbryn", UNPACKED, wilbryn_check, wilbryn_settled, wilbryn_meeting},
 };
 
 static const struct version on_packed[VERSIONS] = {
-    {"plain", PACKED, plain_packed_check, plain_packed_meeting},
-    {"wilbryn", UNPACKED, wilbryn_check, wilbryn_meeting},
-    {"packed", PACKED, wilbryn_packed_check, wilbryn_packed_meeting},
+    {"plain", PACKED, plain_packed_check, plain_packed_settled, plain_packed_meeting},
+    {"wilbryn", UNPACKED, wilbryn_check, wilbryn_settled, wilbryn_meeting},
+    {"packed", PACKED, wilbryn_packed_check, wilbryn_packed_settled, wilbryn_packed_meeting},
 };
 
 enum { PAIRS = 256, REPEATS = 8, WARM_UP = 4, ROUNDS = 61, STACK = 1 << 17 };
@@ -54,9 +56,9 @@ static unsigned below(unsigned limit) {
 }
 
 /* What the calls are lent, for each form and N: two heads of one parlour just before a meeting, and
-   a buffer in which no verdict stands. */
+   a buffer of N bytes in which no verdict and no count stands. */
 static struct lent {
-    uint8_t first[LONGEST], second[LONGEST], verdicts[MOST];
+    uint8_t first[LONGEST], second[LONGEST], output[MOST];
 } pairs_of[FORMS][MOST + 1][PAIRS], work;
 
 /* The N at work and its lengths; the versions compared, and the one at work with its length and its
@@ -87,9 +89,9 @@ static void make_pair(struct lent *pair, struct lent *packed) {
         plain_milking(images[below((unsigned)n)], len, (uint16_t)below(1000));
         memcpy(pair->first, images[a], len);
         memcpy(pair->second, images[b], len);
-        plain_meeting(images[a], len, images[b], len, pair->verdicts, n);
+        plain_meeting(images[a], len, images[b], len, pair->output, n);
     }
-    memset(pair->verdicts, 0xee, sizeof pair->verdicts);
+    memset(pair->output, 0xee, sizeof pair->output);
     *packed = *pair;
     plain_pack(pair->first, len, packed->first, packed_len);
     plain_pack(pair->second, len, packed->second, packed_len);
@@ -100,14 +102,15 @@ typedef uint32_t call(void);
 
 static uint32_t nothing(void) { return 0; }
 static uint32_t check(void) { return version->check(work.first, len); }
+static uint32_t settled(void) { return version->settled(work.first, len, work.output, n); }
 static uint32_t meeting(void) {
-    return version->meeting(work.first, len, work.second, len, work.verdicts, n);
+    return version->meeting(work.first, len, work.second, len, work.output, n);
 }
 
 static void lay_out(const struct lent *pair) {
     memcpy(work.first, pair->first, len);
     memcpy(work.second, pair->second, len);
-    memcpy(work.verdicts, pair->verdicts, sizeof work.verdicts);
+    memcpy(work.output, pair->output, sizeof work.output);
 }
 
 /* Nanoseconds a call, over all pairs. */
@@ -304,8 +307,10 @@ int main(void) {
         }
     }
     compare("check", on_images, check);
+    compare("settled", on_images, settled);
     compare("meeting", on_images, meeting);
     compare("packed check; wilbryn: that of the unpacked images", on_packed, check);
+    compare("packed settled; wilbryn: that of the unpacked images", on_packed, settled);
     compare("packed meeting; wilbryn: that of the unpacked images", on_packed, meeting);
     return 0;
 }

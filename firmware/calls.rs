@@ -10,6 +10,7 @@ extern "C" {
     fn wilbryn_check(image: *const u8, len: usize) -> u32;
     fn wilbryn_milking(image: *mut u8, len: usize, new: u16) -> u32;
     fn wilbryn_heard(image: *const u8, len: usize, records: *mut u8, records_len: usize) -> u32;
+    fn wilbryn_settled(image: *const u8, len: usize, counts: *mut u8, counts_len: usize) -> u32;
     fn wilbryn_meeting(
         first: *mut u8,
         first_len: usize,
@@ -20,13 +21,17 @@ extern "C" {
     ) -> u32;
 }
 
+/// A call that reads an image and writes into a buffer.
+pub type Reading = unsafe extern "C" fn(*const u8, usize, *mut u8, usize) -> u32;
+
 /// The library's calls on images of a form.
 pub struct Calls {
     pub form: Form,
     pub fresh: unsafe extern "C" fn(*mut u8, usize, u8, u8) -> u32,
     pub check: unsafe extern "C" fn(*const u8, usize) -> u32,
     pub milking: unsafe extern "C" fn(*mut u8, usize, u16) -> u32,
-    pub heard: unsafe extern "C" fn(*const u8, usize, *mut u8, usize) -> u32,
+    pub heard: Reading,
+    pub settled: Reading,
     pub meeting: unsafe extern "C" fn(*mut u8, usize, *mut u8, usize, *mut u8, usize) -> u32,
 }
 
@@ -36,6 +41,7 @@ pub static PLAIN: Calls = Calls {
     check: wilbryn_check,
     milking: wilbryn_milking,
     heard: wilbryn_heard,
+    settled: wilbryn_settled,
     meeting: wilbryn_meeting,
 };
 
@@ -156,6 +162,22 @@ pub fn agree(call: &str, lent: &[&[u8]], library: &Outcome, model: &Outcome) {
     exit(1);
 }
 
+/// What such a call leaves in the library and in the model.
+pub fn read_into(
+    reading: Reading,
+    modelled_reading: impl Fn(&[u8], &mut [u8]) -> u32,
+    image: &[u8],
+    before: &[u8],
+) -> [Outcome; 2] {
+    let [lent, mut written] = [image, before].map(Run::from);
+    let (len, written_len) = (lent.len(), written.len());
+    let answer = unsafe { reading(lent.as_ptr(), len, written.as_mut_ptr(), written_len) };
+    let library = Outcome { answer, runs: vec![lent, written] };
+    let mut modelled = Run::from(before);
+    let answer = modelled_reading(image, &mut modelled);
+    [library, Outcome { answer, runs: vec![Run::from(image), modelled] }]
+}
+
 impl Calls {
     pub fn fresh(&self, counts: &mut Counts, before: &[u8], n: u8, stall: u8) -> Run {
         let (mut image, mut modelled) = (Run::from(before), Run::from(before));
@@ -193,15 +215,18 @@ impl Calls {
     /// The order of the records is open, so for comparing the library's are put by rising stall.
     /// Answers what was left, in the library's order.
     pub fn heard(&self, counts: &mut Counts, image: &[u8], records: &[u8]) -> Outcome {
-        let [lent, mut written] = [image, records].map(Run::from);
-        let (len, written_len) = (lent.len(), written.len());
-        let answer = unsafe { (self.heard)(lent.as_ptr(), len, written.as_mut_ptr(), written_len) };
-        let library = Outcome { answer, runs: vec![lent, written] };
-        let mut modelled = Run::from(records);
-        let answer = self.form.heard(image, &mut modelled);
-        let model = Outcome { answer, runs: vec![Run::from(image), modelled] };
+        let modelled = |image: &[u8], records: &mut [u8]| self.form.heard(image, records);
+        let [library, model] = read_into(self.heard, modelled, image, records);
         agree("heard", &[image, records], &by_stall(&library), &model);
-        counts.add("heard", answer);
+        counts.add("heard", library.answer);
+        library
+    }
+
+    pub fn settled(&self, counts: &mut Counts, image: &[u8], before: &[u8]) -> Outcome {
+        let modelled = |image: &[u8], numbers: &mut [u8]| self.form.settled(image, numbers);
+        let [library, model] = read_into(self.settled, modelled, image, before);
+        agree("settled", &[image, before], &library, &model);
+        counts.add_number("settled", library.answer);
         library
     }
 

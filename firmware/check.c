@@ -1,4 +1,5 @@
-/* The examples of document 01 with requests 2026-01 to 2026-03, on the functions of wilbryn.h. */
+/* The examples of document 01 with requests 2026-01 to 2026-03 and 2026-05, on the functions of
+   wilbryn.h. */
 #include "check_calls.h"
 
 #include <string.h>
@@ -67,6 +68,7 @@ const struct form form = {
     .check = wilbryn_check,
     .milking = wilbryn_milking,
     .heard = wilbryn_heard,
+    .settled = wilbryn_settled,
     .meeting = wilbryn_meeting,
     .examples = examples,
     .milked = "0201 0012 00000000 00000000 ffffffff 0000",

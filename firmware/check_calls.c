@@ -5,8 +5,8 @@
 #include <stdlib.h>
 #include <string.h>
 
-static const char *const names[CALLS] = {"fresh",   "check", "milking", "heard",
-                                         "meeting", "pack",  "unpack"};
+static const char *const names[CALLS] = {"fresh",   "check",   "milking", "heard",
+                                         "settled", "meeting", "pack",    "unpack"};
 static unsigned counts[CALLS];
 const char *doing = "";
 
@@ -128,6 +128,48 @@ void heard(uint32_t wanted, struct run image, size_t buffer, const char *list) {
     for (int i = 0; i < 5; i++) give_back(all[i]);
 }
 
+/* Afterwards the buffer must hold this, and the image what it held before. */
+static void read_into(enum call call, reading *reading, uint32_t wanted, struct run image,
+                      struct run wanted_output) {
+    struct run output = lend(wanted_output.len);
+    struct run before[] = {copy(image), copy(output)};
+    uint32_t got = reading(image.bytes, image.len, output.bytes, output.len);
+    expect(call, wanted, got, before, 2);
+    expect_bytes("what is lent to read", before[0], image);
+    expect_bytes("the output", wanted_output, output);
+    struct run all[] = {output, before[0], before[1]};
+    for (int i = 0; i < 3; i++) give_back(all[i]);
+}
+
+void reading_refused(enum call call, reading *reading, uint32_t number, struct run image,
+                     size_t buffer) {
+    struct run unchanged = lend(buffer);
+    read_into(call, reading, number, image, unchanged);
+    give_back(unchanged);
+}
+
+/* Into every length of buffer: all but the right one are 8. */
+void read_into_all(enum call call, reading *reading, struct run image, struct run wanted_output) {
+    read_into(call, reading, 0, image, wanted_output);
+    for (size_t buffer = 0; buffer <= 160; buffer++) {
+        if (buffer != wanted_output.len) reading_refused(call, reading, 8, image, buffer);
+    }
+}
+
+/* A byte for each of so many digits. */
+static struct run from_digits(const char *digits, size_t len) {
+    struct run run = lend(len);
+    for (size_t i = 0; i < len; i++) run.bytes[i] = (uint8_t)(digits[i] - '0');
+    return run;
+}
+
+/* counts: for each stall a digit; more may follow. */
+static void settled(struct run image, const char *counts) {
+    struct run wanted = from_digits(counts, image.bytes[0]);
+    read_into_all(SETTLED, form.settled, image, wanted);
+    give_back(wanted);
+}
+
 struct run part(struct run run, size_t from, size_t to) {
     return (struct run){run.bytes + from, to - from};
 }
@@ -188,6 +230,10 @@ static void try_examples(void) {
         check(number, image);
         heard(256 + (number == 0 ? 8 : number), image, 2, "");
         if (number != 0) heard(256 + number, image, 6, "");
+        reading_refused(SETTLED, form.settled, number == 0 ? 8 : number, image, 9);
+        for (size_t buffer = 0; number != 0 && buffer <= 8; buffer++) {
+            reading_refused(SETTLED, form.settled, number, image, buffer);
+        }
         milking(number == 0 ? 4 : number, image, 1000);
         milking(number, image, 5);
         give_back(image);
@@ -210,6 +256,7 @@ static void try_fresh(void) {
             fresh(0, image, n, stall);
             check(0, image);
             heard(0, image, 3 * n, "");
+            settled(image, "00000000");
         }
         give_back(image);
     }
@@ -251,6 +298,25 @@ static void try_heard(void) {
     give_back(first);
 }
 
+/* The first of two heads that met has all four marks; then just those that check 6 demands, (1, 1),
+   (2, 1) and (2, 2), which no list leaves. Of the listing, the first head has met once; the others
+   know that the latest of stall 1 lies in the past of every latest. */
+static void try_settled(void) {
+    doing = "what is settled of two heads";
+    struct run image = from_hex(form.apart[0]);
+    settled(image, "22");
+    image.bytes[image.len - 2] = 1;
+    settled(image, "12");
+    give_back(image);
+    doing = "what is settled in the listing";
+    static const char *const wanted[] = {"220", "322", "322"};
+    for (int i = 0; i < 3; i++) {
+        struct run left = from_hex(form.listing[i]);
+        settled(left, wanted[i]);
+        give_back(left);
+    }
+}
+
 struct parlour open_parlour(uint8_t n) {
     struct parlour parlour = {.n = n};
     for (uint8_t stall = 1; stall <= n; stall++) {
@@ -263,25 +329,34 @@ void shut_parlour(struct parlour parlour) {
     for (uint8_t stall = 1; stall <= parlour.n; stall++) give_back(parlour.images[stall]);
 }
 
-/* The lists to try: pairs of stalls, and the label and the verdicts of each meeting. Those that
-   document 01 does not write down follow from its definitions. */
+/* The lists to try: pairs of stalls; of each meeting the label, the verdicts, and the counts that
+   both heads then have. What document 01 does not write down follows from its definitions. So in
+   example 2.4: after 45 the meeting 12, the latest of stall 2, lies in the past of all five
+   latests; after 25 stall 2 has a newer latest, which lies in the past of two.
+
+   In the last two lists the count of stall 1 falls from N for a newer meeting of stall 1: head 3
+   then has the meeting 13, which head 2 lacks; head 4 hears in the meeting 24 of the second 12,
+   which head 3 lacks. */
 static const struct {
     uint8_t n;
-    const char *meetings, *labels, *verdicts;
+    const char *meetings, *labels, *verdicts, *settled;
 } lists[] = {
-    {2, "12 12 12 12", "0101", "00 00 00 00"},
-    {3, "12 13 12 12 12", "00121", "000 110 101 000 000"},
-    {5, "12 13 14 45 25 24 35", "0000000", "00000 11000 11100 11110 20222 01001 22022"},
-    {5, "12 13 14 45 25 24 12", "0000001", "00000 11000 11100 11110 20222 01001 02022"},
-    {4, "12 13 24 34", "0000", "0000 1100 1100 1212"},
-    {2, "12", "0", "00"},
-    {3, "31", "0", "000"},
-    {4, "24", "0", "0000"},
-    {5, "51", "0", "00000"},
-    {6, "36", "0", "000000"},
-    {7, "72", "0", "0000000"},
-    {8, "87", "0", "00000000"},
-    {3, "12 23", "00", "000 110"},
+    {2, "12 12 12 12", "0101", "00 00 00 00", "22 22 22 22"},
+    {3, "12 13 12 12 12", "00121", "000 110 101 000 000", "220 232 223 223 223"},
+    {5, "12 13 14 45 25 24 35", "0000000", "00000 11000 11100 11110 20222 01001 22022",
+     "22000 23200 24320 35422 42532 42523 53242"},
+    {5, "12 13 14 45 25 24 12", "0000001", "00000 11000 11100 11110 20222 01001 02022",
+     "22000 23200 24320 35422 42532 42523 22534"},
+    {4, "12 13 24 34", "0000", "0000 1100 1100 1212", "2200 2320 3202 3322"},
+    {2, "12", "0", "00", "22"},
+    {3, "31", "0", "000", "202"},
+    {4, "24", "0", "0000", "0202"},
+    {5, "51", "0", "00000", "20002"},
+    {6, "36", "0", "000000", "002002"},
+    {7, "72", "0", "0000000", "0200002"},
+    {8, "87", "0", "00000000", "00000022"},
+    {3, "12 23 13", "000", "000 110 022", "220 322 232"},
+    {4, "12 23 34 12 24", "00010", "0000 1100 1110 0220 1122", "2200 3220 4322 2230 3232"},
 };
 
 enum { LISTS = sizeof lists / sizeof lists[0] };
@@ -290,17 +365,17 @@ static void try_lists(void) {
     for (int i = 0; i < LISTS; i++) {
         doing = lists[i].meetings;
         struct parlour parlour = open_parlour(lists[i].n);
-        struct run verdicts = lend(parlour.n);
-        const char *pair = lists[i].meetings, *digits = lists[i].verdicts;
+        const char *pair = lists[i].meetings;
         for (uint8_t r = 1; r <= parlour.n; r++) milking(0, parlour.images[r], r);
-        for (const char *label = lists[i].labels; *label != '\0'; label++) {
-            for (size_t r = 0; r < parlour.n; r++) verdicts.bytes[r] = (uint8_t)(digits[r] - '0');
-            meeting_either_way((uint32_t)(*label - '0'), parlour.images[pair[0] - '0'],
-                               parlour.images[pair[1] - '0'], verdicts);
-            pair += 3;
-            digits += parlour.n + 1;
+        for (size_t at = 0; at < strlen(lists[i].labels); at++, pair += 3) {
+            struct run one = parlour.images[pair[0] - '0'], other = parlour.images[pair[1] - '0'];
+            size_t from = at * (parlour.n + 1u);
+            struct run verdicts = from_digits(lists[i].verdicts + from, parlour.n);
+            meeting_either_way((uint32_t)(lists[i].labels[at] - '0'), one, other, verdicts);
+            settled(one, lists[i].settled + from);
+            settled(other, lists[i].settled + from);
+            give_back(verdicts);
         }
-        give_back(verdicts);
         shut_parlour(parlour);
     }
 }
@@ -374,6 +449,7 @@ void try_form(void) {
     try_fresh();
     try_milking();
     try_heard();
+    try_settled();
     try_lists();
     try_listing();
     try_examples_in_meetings();

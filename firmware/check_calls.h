@@ -11,6 +11,9 @@ struct run {
     size_t len;
 };
 
+/* A call that reads an image and writes into a buffer. */
+typedef __typeof__(wilbryn_settled) reading;
+
 /* An image, and the number of its refusal or 0. */
 struct example {
     const char *what, *image;
@@ -26,6 +29,7 @@ extern const struct form {
     __typeof__(wilbryn_check) *check;
     __typeof__(wilbryn_milking) *milking;
     __typeof__(wilbryn_heard) *heard;
+    reading *settled;
     __typeof__(wilbryn_meeting) *meeting;
     const struct example *examples; /* the last has no image */
     const char *milked;             /* stall 1 of 2, fresh but for the yield 18 */
@@ -33,7 +37,7 @@ extern const struct form {
     const char *apart[2];           /* two that do not belong together: the example of 9 */
 } form;
 
-enum call { FRESH, CHECK, MILKING, HEARD, MEETING, PACK, UNPACK, CALLS };
+enum call { FRESH, CHECK, MILKING, HEARD, SETTLED, MEETING, PACK, UNPACK, CALLS };
 
 /* What is being tried, for the report of a difference. */
 extern const char *doing;
@@ -52,6 +56,9 @@ void check(uint32_t wanted, struct run image);
 void fresh(uint32_t wanted, struct run image, uint8_t n, uint8_t stall);
 void milking(uint32_t wanted, struct run image, uint16_t yield);
 void heard(uint32_t wanted, struct run image, size_t buffer, const char *list);
+void read_into_all(enum call call, reading *reading, struct run image, struct run wanted_output);
+void reading_refused(enum call call, reading *reading, uint32_t number, struct run image,
+                     size_t buffer);
 void meeting(uint32_t wanted, struct run first, struct run second, struct run wanted_verdicts);
 void meeting_refused(uint32_t number, struct run first, struct run second, size_t buffer);
 
@@ -66,7 +73,7 @@ struct parlour {
 struct parlour open_parlour(uint8_t n);
 void shut_parlour(struct parlour parlour);
 
-/* Everything that the form's examples and document 01's lists say. */
+/* Everything that the form's examples and document 01's lists say, with request 2026-05. */
 void try_form(void);
 
 void print_counts(void);

@@ -1,5 +1,5 @@
-/* The examples of document 01 packed by hand as request 2026-04 says, on the functions of wilbryn.h
-   for packed images, and packing and unpacking. */
+/* The examples of document 01 packed by hand as request 2026-04 says, and those of request 2026-05,
+   on the functions of wilbryn.h for packed images; and packing and unpacking. */
 #include "check_calls.h"
 
 #include <string.h>
@@ -83,6 +83,7 @@ const struct form form = {
     .check = wilbryn_packed_check,
     .milking = wilbryn_packed_milking,
     .heard = wilbryn_packed_heard,
+    .settled = wilbryn_packed_settled,
     .meeting = wilbryn_packed_meeting,
     .examples = examples,
     .milked = "0201 0012 0020 0020 ffffffff 0000",
@@ -117,42 +118,13 @@ static const struct {
 
 enum { BOTH_FORMS = sizeof both_forms / sizeof both_forms[0] };
 
-typedef __typeof__(wilbryn_pack) converting;
-
-/* Packing or unpacking into a buffer that must then hold this. */
-static void convert(enum call call, uint32_t wanted, struct run image, struct run wanted_output) {
-    converting *convert = call == PACK ? wilbryn_pack : wilbryn_unpack;
-    struct run output = lend(wanted_output.len);
-    struct run before[] = {copy(image), copy(output)};
-    uint32_t got = convert(image.bytes, image.len, output.bytes, output.len);
-    expect(call, wanted, got, before, 2);
-    expect_bytes("what is lent to read", before[0], image);
-    expect_bytes("the output", wanted_output, output);
-    struct run all[] = {output, before[0], before[1]};
-    for (int i = 0; i < 3; i++) give_back(all[i]);
-}
-
-static void convert_refused(enum call call, uint32_t number, struct run image, size_t buffer) {
-    struct run unchanged = lend(buffer);
-    convert(call, number, image, unchanged);
-    give_back(unchanged);
-}
-
-/* Into every length of buffer: all but the right one are 8. */
-static void convert_into_all(enum call call, struct run image, struct run wanted_output) {
-    convert(call, 0, image, wanted_output);
-    for (size_t buffer = 0; buffer <= 160; buffer++) {
-        if (buffer != wanted_output.len) convert_refused(call, 8, image, buffer);
-    }
-}
-
 static void try_both_forms(void) {
     doing = "both forms of an image";
     for (int i = 0; i < BOTH_FORMS; i++) {
         struct run image = from_hex(both_forms[i].image), packed = from_hex(both_forms[i].packed);
         check(0, packed);
-        convert_into_all(PACK, image, packed);
-        convert_into_all(UNPACK, packed, image);
+        read_into_all(PACK, wilbryn_pack, image, packed);
+        read_into_all(UNPACK, wilbryn_unpack, packed, image);
         give_back(packed);
         give_back(image);
     }
@@ -174,20 +146,22 @@ static const struct example not_packed[] = {
 };
 
 /* 1 to 6 come before 8, and stand whether the buffer is right or wrong. */
-static void try_conversions_of(enum call call, const struct example *example) {
+static void try_conversions_of(enum call call, reading *convert, const struct example *example) {
     for (; example->image != NULL; example++) {
         if (example->number == 0) continue;
         doing = example->what;
         struct run image = from_hex(example->image);
         size_t buffers[] = {0, 14, 18, 22, 31, 92, 156};
-        for (int i = 0; i < 7; i++) convert_refused(call, example->number, image, buffers[i]);
+        for (int i = 0; i < 7; i++) {
+            reading_refused(call, convert, example->number, image, buffers[i]);
+        }
         give_back(image);
     }
 }
 
 static void try_conversions(void) {
-    try_conversions_of(PACK, not_packed);
-    try_conversions_of(UNPACK, examples);
+    try_conversions_of(PACK, wilbryn_pack, not_packed);
+    try_conversions_of(UNPACK, wilbryn_unpack, examples);
 }
 
 static void try_fresh_bytes(void) {
@@ -218,7 +192,7 @@ static void try_room(void) {
     struct run block = lend(512);
     struct run one = part(block, 16, 108), two = part(block, 112, 204);
     struct run image = part(block, 208, 364), verdicts = part(block, 368, 376);
-    struct run records = part(block, 380, 404);
+    struct run records = part(block, 380, 404), counts = part(block, 408, 416);
     expect(FRESH, 0, form.fresh(one.bytes, one.len, 8, 1), NULL, 0);
     expect(FRESH, 0, form.fresh(two.bytes, two.len, 8, 8), NULL, 0);
     expect(MILKING, 0, form.milking(two.bytes, two.len, 999), NULL, 0);
@@ -226,11 +200,13 @@ static void try_room(void) {
            form.meeting(one.bytes, one.len, two.bytes, two.len, verdicts.bytes, verdicts.len), NULL,
            0);
     expect(HEARD, 2, form.heard(two.bytes, two.len, records.bytes, records.len), NULL, 0);
+    expect(SETTLED, 0, form.settled(two.bytes, two.len, counts.bytes, counts.len), NULL, 0);
+    expect_hex("the counts", "0200000000000002", counts);
     expect(UNPACK, 0, wilbryn_unpack(one.bytes, one.len, image.bytes, image.len), NULL, 0);
     expect(PACK, 0, wilbryn_pack(image.bytes, image.len, two.bytes, two.len), NULL, 0);
     expect_bytes("packed again", one, two);
-    struct run lent[] = {one, two, image, verdicts, records};
-    expect_only(block, lent, 5);
+    struct run lent[] = {one, two, image, verdicts, records, counts};
+    expect_only(block, lent, 6);
     give_back(block);
 }
 

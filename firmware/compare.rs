@@ -1,4 +1,5 @@
-//! Compares the library's fresh, check, milking and heard with the model, on images of every kind.
+//! Compares the library's fresh, check, milking, heard and settled with the model, on images of
+//! every kind.
 
 #[allow(dead_code)]
 mod calls;
@@ -24,9 +25,11 @@ fn check_yield(counts: &mut Counts, table: &Table, place: usize, new: u16) -> Ve
     image
 }
 
-/// A heard list of an image, and a milking with a yield at an edge.
+/// What an image has heard and what is settled, and a milking with a yield at an edge.
 fn list_and_milk(random: &mut Random, counts: &mut Counts, image: &mut [u8]) {
-    PLAIN.heard(counts, image, &random.bytes(3 * image[0] as usize));
+    let n = image[0] as usize;
+    PLAIN.heard(counts, image, &random.bytes(3 * n));
+    PLAIN.settled(counts, image, &random.bytes(n));
     PLAIN.milking(counts, image, random.pick(&EDGES));
 }
 
@@ -137,7 +140,9 @@ fn main() {
     counts.require("fresh", 0..=3);
     counts.require("check", 0..=6);
     counts.require("milking", 0..=6);
-    counts.require("heard", (0..=6).chain([8]));
+    for kind in ["heard", "settled"] {
+        counts.require(kind, (0..=6).chain([8]));
+    }
     counts.require_yields();
     require_labels(&tried);
 }

@@ -1,5 +1,6 @@
-/* Two heads of a parlour of three over wilbryn.h: they meet before and after the second is milked,
-   and say what they then hold. Head 3 is out of range, so neither hears of it. */
+/* The heads of a parlour of three over wilbryn.h: two meet before and after the second is milked,
+   and say what they then hold. Head 3 is out of range, so neither hears of it; once it has met head
+   1, that can say which yield all have heard. */
 #include "wilbryn.h"
 
 #include <stdio.h>
@@ -72,10 +73,23 @@ static void show(const struct head *head) {
     }
 }
 
+/* What the parlour computer asks before it drops old yields. */
+static void show_settled(const struct head *head) {
+    uint8_t counts[STALLS];
+    uint32_t answer = wilbryn_settled(head->image, sizeof head->image, counts, sizeof counts);
+    must(answer == 0, "the question what is settled", answer);
+    printf("head %d knows how many have heard what it has\n", head->image[1]);
+    for (int i = 0; i < STALLS; i++) {
+        const char *so = counts[i] == STALLS ? ", so this yield can be dropped" : "";
+        printf("  of stall %d: %d of %d%s\n", i + 1, counts[i], STALLS, so);
+    }
+}
+
 int main(void) {
-    struct head one, two;
+    struct head one, two, three;
     start(&one, 1);
     start(&two, 2);
+    start(&three, 3);
     milk(&one, 183);
     milk(&one, 1000);
     meet(&one, &two);
@@ -85,5 +99,9 @@ int main(void) {
     show(&two);
     meet(&two, &one);
     show(&one);
+    show_settled(&one);
+    meet(&one, &three);
+    /* Head 2 has not heard of this meeting yet, so of stalls 1 and 3 only two have. */
+    show_settled(&one);
     return 0;
 }

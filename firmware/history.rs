@@ -128,6 +128,12 @@ impl History {
         }
     }
 
+    /// For a head: its latest of r lies in the past of its latest of s.
+    pub fn is_before(&self, head: usize, r: usize, s: usize) -> bool {
+        let latests = self.latest(head, r).zip(self.latest(head, s));
+        latests.is_some_and(|(latest_r, latest_s)| self.is_in_past(latest_r, latest_s))
+    }
+
     /// How column r names a meeting of stall r.
     fn name(&self, place: Option<usize>, r: usize) -> Name {
         let Some(place) = place else { return NONE };
@@ -141,13 +147,12 @@ impl History {
         let mut table = Table::fresh(self.n, head);
         table.current = self.current[head];
         for s in 1..=self.n {
-            let Some(latest_s) = self.latest(head, s) else { continue };
-            let event = &self.events[latest_s];
+            let Some(latest) = self.latest(head, s) else { continue };
+            let event = &self.events[latest];
             table.yields[s] = event.yields[(event.stalls[1] == s) as usize];
             for r in 1..=self.n {
                 table.rows[s][r] = self.name(event.newest[r], r);
-                let latest_r = self.latest(head, r);
-                if latest_r.is_some_and(|latest_r| self.is_in_past(latest_r, latest_s)) {
+                if self.is_before(head, r, s) {
                     table.set_mark(r, s);
                 }
             }

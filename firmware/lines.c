@@ -1,5 +1,6 @@
-/* The line program of document 01 in plain C over plain.c, unproved: the baseline of the benchmark.
-   It reads frames from standard input, one a line, and answers each with a line. */
+/* The line program of document 01 with request 2026-05 in plain C over plain.c, unproved: the
+   baseline of the benchmark. It reads frames from standard input, one a line, and answers each with
+   a line. */
 #include "wilbryn.h"
 
 #include <errno.h>
@@ -11,6 +12,7 @@
 extern __typeof__(wilbryn_fresh) plain_fresh;
 extern __typeof__(wilbryn_milking) plain_milking;
 extern __typeof__(wilbryn_heard) plain_heard;
+extern __typeof__(wilbryn_settled) plain_settled;
 extern __typeof__(wilbryn_meeting) plain_meeting;
 
 enum { BLOCK = 1 << 16, MOST = 8, LONGEST_IMAGE = WILBRYN_IMAGE_LENGTH(MOST) };
@@ -18,8 +20,8 @@ enum { BLOCK = 1 << 16, MOST = 8, LONGEST_IMAGE = WILBRYN_IMAGE_LENGTH(MOST) };
 /* The digits of a milking, and those of an image of the largest parlour with 00 and a newline. */
 enum { LONGEST_FRAME = 8, LONGEST_ANSWER = 2 + 2 * LONGEST_IMAGE + 1 };
 
-enum { OPENING = 1, MILKING, MEETING, IMAGE, HEARD };
-static const uint8_t bytes_of_kind[] = {0, 2, 4, 3, 2, 2};
+enum { OPENING = 1, MILKING, MEETING, IMAGE, HEARD, SETTLED };
+static const uint8_t bytes_of_kind[] = {0, 2, 4, 3, 2, 2, 2};
 
 /* The parlour: its N, or 0 before the opening, and the image of each stall. */
 static uint8_t heads;
@@ -104,8 +106,18 @@ static uint32_t show_heard(uint8_t stall) {
     return 0;
 }
 
+static uint32_t show_settled(uint8_t stall) {
+    if (!is_stall(stall)) return 3;
+    uint8_t counts[MOST];
+    uint32_t refusal = plain_settled(image_of(stall), image_len, counts, heads);
+    if (refusal != 0) return refusal;
+    put_byte(0);
+    put_bytes(counts, heads);
+    return 0;
+}
+
 static uint32_t answer_frame(const uint8_t *frame, size_t len) {
-    if (len == 0 || frame[0] > HEARD || len != bytes_of_kind[frame[0]]) return 10;
+    if (len == 0 || frame[0] > SETTLED || len != bytes_of_kind[frame[0]]) return 10;
     bool open = heads != 0;
     if (open == (frame[0] == OPENING)) return 11;
     switch (frame[0]) {
@@ -113,7 +125,8 @@ static uint32_t answer_frame(const uint8_t *frame, size_t len) {
     case MILKING: return milk(frame[1], (uint16_t)(frame[2] << 8 | frame[3]));
     case MEETING: return meet(frame[1], frame[2]);
     case IMAGE: return show_image(frame[1]);
-    default: return show_heard(frame[1]);
+    case HEARD: return show_heard(frame[1]);
+    default: return show_settled(frame[1]);
     }
 }
 

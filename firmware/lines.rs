@@ -39,6 +39,9 @@ struct Test {
     lines: usize,
     by_number: [usize; 12],
     dry_and_not_milked: usize,
+    /// Of the lines that ask what is settled: how often each number, and how often something was.
+    settled_by_number: [usize; 12],
+    settled: usize,
 }
 
 impl Test {
@@ -52,11 +55,13 @@ impl Test {
         for answer in expected {
             self.by_number[answer.number as usize] += 1;
             self.dry_and_not_milked += answer.shows_dry_and_not_milked() as usize;
+            self.settled_by_number[answer.number as usize] += answer.is_of_settled() as usize;
+            self.settled += answer.shows_settled() as usize;
         }
     }
 
     /// Ends the run if one of the numbers that a line can be answered never came up, or no heard list
-    /// had 0 beside not milked.
+    /// had 0 beside not milked, or nothing was settled.
     fn print(&self) {
         println!("  {} sessions, {} lines; how often each number:", self.sessions, self.lines);
         for (number, count) in self.by_number.iter().enumerate().filter(|(_, &count)| count > 0) {
@@ -69,7 +74,17 @@ impl Test {
         if self.dry_and_not_milked == 0 {
             self.fail("all sessions", "0 beside not milked never came up");
         }
+        self.print_settled();
         println!("  no difference");
+    }
+
+    fn print_settled(&self) {
+        let times = [0, 3, 11].map(|number| self.settled_by_number[number]);
+        print!("  asked what is settled: {} taken, {} with 03, ", times[0], times[1]);
+        println!("{} with 0b; something was, {} times", times[2], self.settled);
+        if times.contains(&0) || self.settled == 0 {
+            self.fail("all sessions", "one of these never came up");
+        }
     }
 
     /// Ends the run at the first line that is answered otherwise.
@@ -187,14 +202,14 @@ fn rounds(input: &[u8], times: usize) -> Vec<Vec<Answer>> {
     rounds
 }
 
-/// Document 01's examples, which hold the model to the document too.
+/// Document 01's examples and those of the requests, which hold the model to these too.
 fn examples(test: &mut Test) {
     for (input, output) in sessions::EXAMPLES {
         let expected = answers(input.as_bytes());
         let model: String =
             expected.iter().map(|answer| String::from_utf8_lossy(&answer.text) + "\n").collect();
         assert_eq!(model, output);
-        test.run("an example of document 01", input.as_bytes());
+        test.run("an example", input.as_bytes());
         test.run("an example without its last newline", input.trim_end().as_bytes());
     }
 }
@@ -263,10 +278,11 @@ fn conversations(test: &mut Test, random: &mut Random) {
 }
 
 fn memory(test: &mut Test, random: &mut Random) {
-    let block = b"0102\n02010012\n030102\n0201\n030201\n0402\n0501\n020203e8\n".repeat(1_000);
+    let lines = b"0102\n02010012\n030102\n0201\n030201\n0402\n0501\n0602\n020203e8\n";
+    let block = lines.repeat(1_000);
     let short = test.memory("a short session", b"0102\n030102\n030102\n", 1);
     let huge = test.memory("a line of 10 MB", &sessions::huge_line(random, 10_000_000), 1);
-    let many = test.memory("many lines", &block, 3_000_000 / 8_000);
+    let many = test.memory("many lines", &block, 3_000_000 / 9_000);
     print!("  most memory, in kB: {short} for 3 lines, {huge} for a line of 10 MB, ");
     println!("{many} for 3 million lines");
     if short.max(huge).max(many) > MOST_MEMORY.min(short + MOST_GROWTH) {
@@ -277,7 +293,15 @@ fn memory(test: &mut Test, random: &mut Random) {
 fn main() {
     let path = std::env::args().nth(1).expect("the path of a line program");
     println!("lines: {path}, seed {SEED:#x}");
-    let mut test = Test { path, sessions: 0, lines: 0, by_number: [0; 12], dry_and_not_milked: 0 };
+    let mut test = Test {
+        path,
+        sessions: 0,
+        lines: 0,
+        by_number: [0; 12],
+        dry_and_not_milked: 0,
+        settled_by_number: [0; 12],
+        settled: 0,
+    };
     let mut random = Random(SEED);
     examples(&mut test);
     for stored in std::env::args().skip(2) {

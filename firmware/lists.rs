@@ -86,6 +86,19 @@ impl Item {
     }
 }
 
+/// How many items a long list has at least.
+pub const LONG: usize = 200;
+
+/// The items of a list, all of which count. In one round of 20 it is long.
+pub fn draw_round(random: &mut Random, n: usize, round: usize) -> Vec<Item> {
+    let count = match round % 20 {
+        0 => LONG + random.below(400),
+        1..=6 => 2 + random.below(10),
+        _ => 12 + random.below(60),
+    };
+    draw(random, n, count)
+}
+
 /// So many items that count.
 pub fn draw(random: &mut Random, n: usize, count: usize) -> Vec<Item> {
     let (way, milkings) = (random.pick(&WAYS), random.pick(&[20, 40, 60]));

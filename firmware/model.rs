@@ -1,5 +1,5 @@
-//! Document 01 with requests 2026-01, 2026-02 and 2026-04 in plain Rust: the other side of every
-//! comparison.
+//! Document 01 with requests 2026-01, 2026-02, 2026-04 and 2026-05 in plain Rust: the other side of
+//! every comparison.
 //! Stalls, rows and columns count from 1 as they do there, so index 0 of each array is unused.
 
 use std::ops::RangeInclusive;
@@ -161,6 +161,16 @@ impl Table {
         self.order[r] |= 1 << (s - 1);
     }
 
+    /// Request 2026-05: "0 where never heard. It counts stall s when the latest of r lies in the
+    /// past of the latest of s".
+    fn known_to(&self, r: usize) -> usize {
+        if self.heard(r) {
+            self.stalls().filter(|&s| self.mark(r, s)).count()
+        } else {
+            0
+        }
+    }
+
     /// The meeting that row s names in column r.
     pub fn named(&self, s: usize, r: usize) -> Option<Meeting> {
         let Name { partner, label } = self.rows[s][r];
@@ -275,6 +285,19 @@ impl Form {
             record.copy_from_slice(&[r as u8, high, low]);
         }
         heard.len() as u32
+    }
+
+    /// Request 2026-05: "for each stall the number of stalls that this head knows to have heard its
+    /// latest of that stall".
+    pub fn settled(self, image: &[u8], counts: &mut [u8]) -> u32 {
+        match self.read(image) {
+            Err(number) => number,
+            Ok(table) if counts.len() != table.n => 8,
+            Ok(table) => {
+                table.stalls().for_each(|r| counts[r - 1] = table.known_to(r) as u8);
+                0
+            }
+        }
     }
 
     pub fn meeting(self, first: &mut [u8], second: &mut [u8], verdicts: &mut [u8]) -> u32 {

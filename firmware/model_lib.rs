@@ -8,7 +8,15 @@ use std::slice::{from_raw_parts, from_raw_parts_mut};
 
 /// Exports the calls on images of a form under these names.
 macro_rules! export {
-    ($form:expr, $fresh:ident, $check:ident, $milking:ident, $heard:ident, $meeting:ident) => {
+    (
+        $form:expr,
+        $fresh:ident,
+        $check:ident,
+        $milking:ident,
+        $heard:ident,
+        $settled:ident,
+        $meeting:ident
+    ) => {
         #[no_mangle]
         unsafe extern "C" fn $fresh(image: *mut u8, len: usize, n: u8, stall: u8) -> u32 {
             $form.fresh(from_raw_parts_mut(image, len), n, stall)
@@ -35,6 +43,16 @@ macro_rules! export {
         }
 
         #[no_mangle]
+        unsafe extern "C" fn $settled(
+            image: *const u8,
+            len: usize,
+            counts: *mut u8,
+            counts_len: usize,
+        ) -> u32 {
+            $form.settled(from_raw_parts(image, len), from_raw_parts_mut(counts, counts_len))
+        }
+
+        #[no_mangle]
         unsafe extern "C" fn $meeting(
             first: *mut u8,
             first_len: usize,
@@ -52,13 +70,22 @@ macro_rules! export {
     };
 }
 
-export!(Form::Plain, wilbryn_fresh, wilbryn_check, wilbryn_milking, wilbryn_heard, wilbryn_meeting);
+export!(
+    Form::Plain,
+    wilbryn_fresh,
+    wilbryn_check,
+    wilbryn_milking,
+    wilbryn_heard,
+    wilbryn_settled,
+    wilbryn_meeting
+);
 export!(
     Form::Packed,
     wilbryn_packed_fresh,
     wilbryn_packed_check,
     wilbryn_packed_milking,
     wilbryn_packed_heard,
+    wilbryn_packed_settled,
     wilbryn_packed_meeting
 );
 

@@ -21,7 +21,7 @@ use lists::Item;
 use model::{label_limit, Form, Table};
 use packed_calls::{convert, PACKED};
 use parlour::{buffer, Parlour, Seen};
-use singles::buffer_len;
+use singles::{buffer_len, counts_len};
 use std::process::exit;
 
 /// What the calls showed on plain images and on packed ones.
@@ -31,21 +31,28 @@ struct Test {
 }
 
 impl Test {
-    /// An image and a packed one say the same: each turns into the other, and their heard lists are
-    /// equal to the byte.
+    /// An image and a packed one say the same: each turns into the other, and their heard lists and
+    /// what is settled are equal to the byte.
     fn expect_same(&mut self, random: &mut Random, plain: &[u8], packed: &[u8]) {
         let counts = &mut self.packed.counts;
         let turned = [
             convert(counts, Form::Plain, plain, &random.bytes(packed.len())),
             convert(counts, Form::Packed, packed, &random.bytes(plain.len())),
         ];
-        let len = buffer_len(random, 3 * plain[0] as usize);
-        let records = random.bytes(len);
-        let listed = PLAIN.heard(&mut self.plain.counts, plain, &records);
-        let packed_listed = PACKED.heard(counts, packed, &records);
-        let same_lists =
-            listed.answer == packed_listed.answer && listed.runs[1] == packed_listed.runs[1];
-        if *turned[0].runs[1] != *packed || *turned[1].runs[1] != *plain || !same_lists {
+        let n = plain[0] as usize;
+        let lens = [buffer_len(random, 3 * n), counts_len(random, n)];
+        let [records, numbers] = lens.map(|len| random.bytes(len));
+        let said = [
+            PLAIN.heard(&mut self.plain.counts, plain, &records),
+            PLAIN.settled(&mut self.plain.counts, plain, &numbers),
+        ];
+        let packed_said =
+            [PACKED.heard(counts, packed, &records), PACKED.settled(counts, packed, &numbers)];
+        let same = |(one, other): (&Outcome, &Outcome)| {
+            one.answer == other.answer && one.runs[1] == other.runs[1]
+        };
+        let same_said = said.iter().zip(&packed_said).all(same);
+        if *turned[0].runs[1] != *packed || *turned[1].runs[1] != *plain || !same_said {
             println!("not the same: {} and {}", hex(plain), hex(packed));
             exit(1);
         }
@@ -61,6 +68,8 @@ impl Test {
             [Form::Plain.length(n), 3 * n].map(|len| buffer_len(random, len));
         convert(counts, Form::Packed, image, &random.bytes(unpacked_len));
         PACKED.heard(counts, image, &random.bytes(records_len));
+        let numbers_len = counts_len(random, n);
+        PACKED.settled(counts, image, &random.bytes(numbers_len));
         PACKED.milking(counts, &mut image.to_vec(), random.any_yield());
         let [other, damaged_too] = others;
         let verdicts = buffer(random, n.max(2), 3);
@@ -302,7 +311,7 @@ fn require(test: &Test) {
     for kind in ["check", "milking", "damaged: any"] {
         counts.require(kind, 0..=6);
     }
-    for kind in ["pack", "unpack", "heard"] {
+    for kind in ["pack", "unpack", "heard", "settled"] {
         counts.require(kind, (0..=6).chain([8]));
     }
     counts.require("meetings in all", 0..=9);

@@ -1,6 +1,6 @@
 //! The calls on packed images, and packing and unpacking, in the library and in the model.
 
-use crate::calls::{agree, hex, Calls, Counts, Outcome, Run};
+use crate::calls::{agree, hex, read_into, Calls, Counts, Outcome, Reading};
 use crate::model::Form;
 use std::process::exit;
 
@@ -15,6 +15,12 @@ extern "C" {
         len: usize,
         records: *mut u8,
         records_len: usize,
+    ) -> u32;
+    fn wilbryn_packed_settled(
+        packed: *const u8,
+        len: usize,
+        counts: *mut u8,
+        counts_len: usize,
     ) -> u32;
     fn wilbryn_packed_meeting(
         first: *mut u8,
@@ -32,6 +38,7 @@ pub static PACKED: Calls = Calls {
     check: wilbryn_packed_check,
     milking: wilbryn_packed_milking,
     heard: wilbryn_packed_heard,
+    settled: wilbryn_packed_settled,
     meeting: wilbryn_packed_meeting,
 };
 
@@ -52,17 +59,12 @@ pub fn convert(counts: &mut Counts, form: Form, image: &[u8], before: &[u8]) -> 
 
 fn convert_once(counts: &mut Counts, form: Form, image: &[u8], before: &[u8]) -> Outcome {
     let (call, function) = match form {
-        Form::Plain => ("pack", wilbryn_pack as unsafe extern "C" fn(_, _, _, _) -> _),
-        Form::Packed => ("unpack", wilbryn_unpack as _),
+        Form::Plain => ("pack", wilbryn_pack as Reading),
+        Form::Packed => ("unpack", wilbryn_unpack as Reading),
     };
-    let [lent, mut written] = [image, before].map(Run::from);
-    let (len, written_len) = (lent.len(), written.len());
-    let answer = unsafe { function(lent.as_ptr(), len, written.as_mut_ptr(), written_len) };
-    let library = Outcome { answer, runs: vec![lent, written] };
-    let mut modelled = Run::from(before);
-    let answer = form.convert(image, &mut modelled);
-    let model = Outcome { answer, runs: vec![Run::from(image), modelled] };
+    let modelled = |image: &[u8], output: &mut [u8]| form.convert(image, output);
+    let [library, model] = read_into(function, modelled, image, before);
     agree(call, &[image, before], &library, &model);
-    counts.add_number(call, answer);
+    counts.add_number(call, library.answer);
     library
 }

@@ -110,7 +110,7 @@ impl Parlour {
         seen.calls.milking(&mut seen.counts, &mut self.images[stall], new)
     }
 
-    /// Some milkings and one meeting, then a check and a heard list.
+    /// Some milkings and one meeting, then a check, a heard list and what is settled.
     pub fn step(&mut self, random: &mut Random, seen: &mut Seen) {
         while random.percent(40) {
             self.milk(seen, random.stall(self.n), random.any_yield());
@@ -119,6 +119,7 @@ impl Parlour {
         self.meet(seen, "from lists", &buffer(random, self.n, 5));
         seen.calls.check(&mut seen.counts, &self.images[a]);
         seen.calls.heard(&mut seen.counts, &self.images[b], &vec![0xee; 3 * self.n]);
+        seen.calls.settled(&mut seen.counts, &self.images[b], &vec![0xee; self.n]);
     }
 
     pub fn fail(&self, what: &str) -> ! {

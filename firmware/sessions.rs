@@ -3,9 +3,10 @@
 use crate::images::{Random, EDGES};
 use crate::pairs::{next_pair, Way, WAYS};
 
-/// Document 01's listing and its examples of lines, and what request 2026-01 says of lines: input and
-/// output.
-pub const EXAMPLES: [(&str, &str); 9] = [
+/// Document 01's listing and its examples of lines, and what requests 2026-01 and 2026-05 say of
+/// lines: input and output. In the listing heads 2 and 3 know that all have heard of the meeting of
+/// 1 and 2.
+pub const EXAMPLES: [(&str, &str); 13] = [
     (
         "0103\n02010012\n030102\n030203\n0403\n",
         "00\n00\n0000000000\n0000010100\n\
@@ -22,6 +23,16 @@ pub const EXAMPLES: [(&str, &str); 9] = [
     ),
     ("0102\n020103e7\n020103e8\n", "00\n00\n04\n"),
     ("0102\n0201ffff\n0401\n", "00\n04\n000201ffff0000000000000000ffffffff0000\n"),
+    (
+        "0103\n0601\n02010012\n030102\n030203\n0601\n0602\n0603\n",
+        "00\n00000000\n00\n0000000000\n0000010100\n00020200\n00030202\n00030202\n",
+    ),
+    (
+        "0102\n0602\n030102\n0601\n030201\n0602\n",
+        "00\n000000\n00000000\n000202\n00010000\n000202\n",
+    ),
+    ("0601\n06\n060101\n0701\n", "0b\n0a\n0a\n0a\n"),
+    ("0103\n0600\n0604\n06ff\n06\n0603ff\n0703\n", "00\n03\n03\n03\n0a\n0a\n0a\n"),
 ];
 
 /// Lines to a parlour of n heads.
@@ -43,6 +54,7 @@ impl Talk {
             0..=5 => format!("02{stall:02x}{:04x}", random.good_yield()),
             6 => format!("04{stall:02x}"),
             7 => format!("05{stall:02x}"),
+            8 => format!("06{stall:02x}"),
             _ => {
                 self.pair = next_pair(random, self.n, self.way, self.pair);
                 format!("03{:02x}{:02x}", self.pair.0, self.pair.1)
@@ -71,7 +83,7 @@ impl Talk {
             4 => format!("03{stall:02x}{other:02x}"),
             5 => format!("03{one:02x}{one:02x}"),
             6 => format!("03{stall:02x}{stall:02x}"),
-            7 => format!("0{}{one:02x}", random.pick(&[4, 5])),
+            7 => format!("0{}{one:02x}", random.pick(&[4, 5, 6])),
             _ => opening(random),
         };
         line.into_bytes()
@@ -81,7 +93,7 @@ impl Talk {
     fn odd_digits(&mut self, random: &mut Random) -> Vec<u8> {
         let mut line = self.taken(random);
         match random.below(7) {
-            0 => line[..2].copy_from_slice(random.pick(&[b"00", b"06", b"10", b"20", b"ff"])),
+            0 => line[..2].copy_from_slice(random.pick(&[b"00", b"07", b"10", b"20", b"ff"])),
             1 => line.truncate(random.below(line.len())),
             2 => line.extend(&digits(random, 1)),
             3 => line.extend(&digits(random, 2)),
@@ -188,7 +200,7 @@ pub fn noise(random: &mut Random) -> Vec<u8> {
 
 /// A line with something before it and something after it, in a parlour of 3.
 fn around(line: &[u8]) -> Vec<u8> {
-    [b"0103\n02010012\n030102\n", line, b"\n030203\n0403\n0503\n"].concat()
+    [b"0103\n02010012\n030102\n", line, b"\n030203\n0403\n0503\n0603\n"].concat()
 }
 
 /// Lines longer than a frame. Their ends look like frames, and so do their lengths to a counter of
@@ -228,8 +240,10 @@ pub fn all_kinds() -> Vec<u8> {
 /// Each two bytes in the place of the last two digits of a line.
 pub fn all_pairs() -> Vec<u8> {
     let mut input = b"0108\n030801\n030102\n".to_vec();
-    for pair in 0..=u16::MAX {
-        input.extend([b"05", &pair.to_be_bytes()[..], b"\n"].concat());
+    for kind in [b"05", b"06"] {
+        for pair in 0..=u16::MAX {
+            input.extend([kind, &pair.to_be_bytes()[..], b"\n"].concat());
+        }
     }
     input
 }
@@ -238,7 +252,7 @@ pub fn all_pairs() -> Vec<u8> {
 pub fn all_openings(n: usize) -> Vec<u8> {
     let mut input = Vec::new();
     for refused in (0..=255).filter(|refused| !(2..=8).contains(refused)) {
-        input.extend(format!("01{refused:02x}\n0401\n").bytes());
+        input.extend(format!("01{refused:02x}\n0401\n0601\n").bytes());
     }
     for opening in [n, n, 0] {
         input.extend(format!("01{opening:02x}\n04{n:02x}\n").bytes());

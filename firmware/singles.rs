@@ -59,6 +59,15 @@ fn fresh(random: &mut Random, calls: &Calls, counts: &mut Counts) {
     calls.fresh(counts, &before, n as u8, stall as u8);
 }
 
+/// The length of a buffer of N bytes: right or nearly so, or any that is right for another N.
+pub fn counts_len(random: &mut Random, n: usize) -> usize {
+    if random.percent(70) {
+        buffer_len(random, n)
+    } else {
+        random.below(11)
+    }
+}
+
 /// Each call on one image, with every part of it right or wrong.
 pub fn call_each(random: &mut Random, calls: &Calls, counts: &mut Counts) {
     let mut image = image(random, calls.form);
@@ -66,6 +75,8 @@ pub fn call_each(random: &mut Random, calls: &Calls, counts: &mut Counts) {
     let n = image.first().map_or(2, |&n| n as usize);
     let len = buffer_len(random, 3 * n);
     calls.heard(counts, &image, &random.bytes(len));
+    let len = counts_len(random, n);
+    calls.settled(counts, &image, &random.bytes(len));
     calls.milking(counts, &mut image, random.any_yield());
     fresh(random, calls, counts);
 }

@@ -11,6 +11,7 @@ mod model;
 mod pairs;
 #[allow(dead_code)]
 mod parlour;
+mod tally;
 
 use calls::{share_of, Outcome, PLAIN};
 use images::Random;
@@ -18,11 +19,8 @@ use lists::{Item, Made, Order};
 use pairs::{next_pair, Way};
 use parlour::{Parlour, Seen};
 use std::collections::BTreeMap;
-use std::ops::RangeInclusive;
 use std::process::exit;
-
-/// How many items a long list has at least.
-const LONG: usize = 200;
+use tally::{Tally, LONG_LISTS};
 
 /// What is counted and required. Trades are by how many of the two are meetings.
 const EITHER_END_VERDICTS: [&str; 2] = ["either end: verdicts 1", "either end: verdicts 2"];
@@ -44,50 +42,6 @@ const REORDERED_MOVED: &str = "own order: items moved";
 const RENAMED_VERDICTS: [&str; 2] =
     ["own order: renamed, verdicts 1", "own order: renamed, verdicts 2"];
 
-/// How often things came up, by kind and number of heads.
-#[derive(Default)]
-struct Tally(BTreeMap<&'static str, [u64; 9]>);
-
-impl Tally {
-    fn add(&mut self, kind: &'static str, n: usize, times: usize) {
-        self.0.entry(kind).or_default()[n] += times as u64;
-    }
-
-    fn of(&self, kind: &str, n: usize) -> u64 {
-        self.0.get(kind).map_or(0, |by_size| by_size[n])
-    }
-
-    fn print(&self) {
-        print!("  {:<46}{:>9}", "how often, by number of heads", "all");
-        (2..=8).for_each(|n| print!("{n:>8}"));
-        println!();
-        for (kind, by_size) in &self.0 {
-            print!("  {kind:<46}{:>9}", by_size.iter().sum::<u64>());
-            by_size[2..].iter().for_each(|count| print!("{count:>8}"));
-            println!();
-        }
-    }
-
-    /// Ends the run if this never came up with one of these numbers of heads.
-    fn require(&self, kind: &str, sizes: RangeInclusive<usize>) {
-        for n in sizes {
-            if self.of(kind, n) == 0 {
-                println!("{kind}: never came up with {n} heads");
-                exit(1);
-            }
-        }
-    }
-
-    /// Ends the run unless a part is more than half of all.
-    fn require_most(&self, part: &str, all: &str) {
-        let sum = |kind| (2..=8).map(|n| self.of(kind, n)).sum::<u64>();
-        if 2 * sum(part) <= sum(all) {
-            println!("{part}: not more than half");
-            exit(1);
-        }
-    }
-}
-
 /// What the calls and the lists showed.
 struct Test {
     seen: Seen,
@@ -95,19 +49,6 @@ struct Test {
 }
 
 impl Test {
-    /// The items of a list. One list in 20 is long.
-    fn draw(&mut self, random: &mut Random, n: usize, round: usize) -> Vec<Item> {
-        let count = match round % 20 {
-            0 => LONG + random.below(400),
-            1..=6 => 2 + random.below(10),
-            _ => 12 + random.below(60),
-        };
-        self.tally.add("lists", n, 1);
-        self.tally.add("lists: items", n, count);
-        self.tally.add("lists: long", n, (count >= LONG) as usize);
-        lists::draw(random, n, count)
-    }
-
     /// Two images meet, each of them first once, with buffers that differ in every byte. Answers
     /// what is left, the second time as if the two had been named as the first time.
     fn meet_both_ways(
@@ -295,7 +236,7 @@ fn note_renamed(test: &mut Test, list: &[Item], order: &Order, again: &Made) {
 /// Each thing came up with every number of heads that it can come up with.
 fn require(test: &Test) {
     let tally = &test.tally;
-    tally.require("lists: long", 2..=8);
+    tally.require(LONG_LISTS, 2..=8);
     tally.require(ONE_REFUSED, 2..=8);
     for meetings in 0..=2 {
         tally.require(NO_COMMON_HEAD[meetings], 2 + meetings..=8);
@@ -315,10 +256,7 @@ fn require_of_third(tally: &Tally) {
     let verdicts = EITHER_END_VERDICTS.into_iter().chain(RENAMED_VERDICTS);
     for kind in verdicts.chain([FROM_NO_LIST]) {
         tally.require(kind, 3..=8);
-        if tally.of(kind, 2) > 0 {
-            println!("{kind}: came up with 2 heads");
-            exit(1);
-        }
+        tally.require_never(kind, 2);
     }
 }
 
@@ -337,7 +275,8 @@ fn main() {
         let mut random = Random(seed);
         for n in 2..=8 {
             for round in 0..share_of(rounds) {
-                let list = test.draw(&mut random, n, round);
+                let list = lists::draw_round(&mut random, n, round);
+                test.tally.add_list(n, list.len());
                 part(&mut random, &mut test, n, &list);
             }
         }

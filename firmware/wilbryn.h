@@ -18,9 +18,9 @@
 
      1  image empty, or N not 2 to 8        6  bad order marks
      2  length not the one for N; a         7  two images differ in N or have one stall
-        packed image has its own            8  verdicts not N bytes, records not 3 * N, or
-     3  stall not 1 to N                       the output of pack or unpack not the length
-     4  a yield over 999 and not 0xffff        for N
+        packed image has its own            8  verdicts or counts not N bytes, records not
+     3  stall not 1 to N                       3 * N, or the output of pack or unpack not the
+     4  a yield over 999 and not 0xffff        length for N
      5  a bad name                          9  the two images do not belong together
 
    The check of an image tries 1 to 6 in order and stops at the first that applies. A stall never
@@ -74,6 +74,17 @@ uint32_t wilbryn_milking(uint8_t *image, size_t len, uint16_t yield);
    or 256 plus 1 to 6 for the image, then 256 + 8 if records_len is not 3 * N. */
 uint32_t wilbryn_heard(const uint8_t *image, size_t len, uint8_t *records, size_t records_len);
 
+/* Writes for each stall how many stalls this head knows to have heard its latest meeting of that
+   stall, its own included: byte r - 1 is the number of stalls s with order mark (r, s), 0 for a
+   stall never heard. Answers 0, or 1 to 6 for the image, then 8 if counts_len is not N.
+
+   A parlour computer asks this before it drops old yields. If the heads of the parlour start fresh
+   and are written by these calls alone, and the number for stall r is N, then every head has that
+   meeting of r or a newer one, now and ever after: the yield told with it will never be news to any
+   head again and can be dropped. Below N a head may still lack it. The number may fall again when
+   this head hears of a newer meeting of r, since that one is not settled yet. */
+uint32_t wilbryn_settled(const uint8_t *image, size_t len, uint8_t *counts, size_t counts_len);
+
 /* Joins two heads of one parlour. Both images get the newest news of every stall; verdict byte
    r - 1 says who had it of stall r: 1 the first, 2 the second, 0 both the same. Answers the label
    of the meeting (at most WILBRYN_LABEL_LIMIT(N)), or 256 plus a refusal: 1 to 6 for the first
@@ -95,8 +106,8 @@ uint32_t wilbryn_pack(const uint8_t *image, size_t len, uint8_t *packed, size_t 
 uint32_t wilbryn_unpack(const uint8_t *packed, size_t packed_len, uint8_t *image, size_t len);
 
 /* The calls above on packed images. Each answers what the call above answers to the unpacked ones,
-   and leaves the same verdicts, the same records in some order, and the packed form of the images
-   that that call leaves. */
+   and leaves the same verdicts and counts, the same records in some order, and the packed form of
+   the images that that call leaves. */
 
 /* Writes the packed form of the fresh image. Answers 0, or 1 for n, 2 for packed_len, 3 for stall,
    tried in this order. */
@@ -112,6 +123,10 @@ uint32_t wilbryn_packed_milking(uint8_t *packed, size_t packed_len, uint16_t yie
    256 + 8 if records_len is not 3 * N. */
 uint32_t wilbryn_packed_heard(const uint8_t *packed, size_t packed_len, uint8_t *records,
                               size_t records_len);
+
+/* As wilbryn_settled. Answers 0, or 1 to 6 for the packed image, then 8 if counts_len is not N. */
+uint32_t wilbryn_packed_settled(const uint8_t *packed, size_t packed_len, uint8_t *counts,
+                                size_t counts_len);
 
 /* As wilbryn_meeting. Answers the label of the meeting, or 256 plus a refusal: 1 to 6 for the first
    packed image, 1 to 6 for the second, then 7, 8, 9. */

@@ -5,17 +5,18 @@ use mathlib.Core.Bool.{true, false}
 use mathlib.Core.List.{List, [], _∷_, _++_}
 use native.Mathlib.Omega.{arith}
 use borrow.Author.Tests.{lt-ltb, le-ltb}
-use lib.ListN.{length, take, drop, replicate, length-append, length-drop}
+use lib.ListN.{length, take, drop, replicate}
 use lib.Seq.{length-take-le, take-append-le}
-use Rattle.image.specs.Layout.{largest, lengthOf}
+use Rattle.image.specs.Layout.{largest}
 use Rattle.image.specs.Check.{badStall}
 use Rattle.head.specs.Heard.{HeardCall}
-use Rattle.line.specs.Parlour.{headsOf, slotPlace, imageOf}
+use Rattle.line.specs.Parlour.{headsOf, imageOf}
 use Rattle.line.specs.Answer.{Reply, refusal, showing, HeardAnswer, written, Replied}
-use Rattle.line.specs.Asked.{Opened}
 use Rattle.line.specs.declared.frame.Frame.the-variants.{Heard}
 use Rattle.line.proofs.Numbers.{heard-number}
-use Rattle.line.proofs.Replying.{given-bytes, given-byte, stall-of, image-fits, the-image}
+use Rattle.line.proofs.Lent.{lent-long, array-long}
+use Rattle.line.proofs.AtStall.{AtStall, stall-image, stall-heads}
+use Rattle.line.proofs.Replying.{given-bytes, given-byte}
 use Rattle.image.proofs.Zeros.{take-zeros}
 
 module _ (state : List ℕ) (stall : ℕ) where
@@ -31,26 +32,12 @@ module _ (state : List ℕ) (stall : ℕ) where
   pub heard-bad : {out out′ : List ℕ} {count : ℕ} → badStall (headsOf state) stall ≡ true → (count ≡ 2) × (out′ ≡ written out (3 ∷ [])) → Replied state out true (Heard stall) count state out′
   heard-bad e w = record { reply = refusal state 3; replies = subst (HeardAnswer state stall (refusal state 3)) (sym e) refl; given = given-byte 3 refl w }
 
--- a stall of an open parlour, and where its slot starts
-pub record Listed (state out : List ℕ) (stall at size m : ℕ) : Type 0 where
-  pub opened : Opened state out
-  pub good : badStall (headsOf state) stall ≡ false
-  pub stands : at ≡ slotPlace stall
-  pub long : size ≡ lengthOf m
-  pub m-is : m ≡ headsOf state
-
-module _ {state out : List ℕ} {stall at size m : ℕ} (w : Listed state out stall at size m) where
-  size-is : size ≡ lengthOf (headsOf state)
-  size-is = w .long ∙ ap lengthOf (w .m-is)
-
-  pub list-fits : at + size ≤ length state
-  list-fits = image-fits state out stall at size (w .opened) (stall-of _ _ (w .good)) (w .stands) size-is
-
+module _ {state out : List ℕ} {stall at size m : ℕ} (w : AtStall state out stall at size m) where
   few : 3 * m ≤ (3 * largest)
-  few = omega (arith, w .m-is, w .opened .to)
+  few = omega (arith, stall-heads w)
 
   pub buffer-long : 3 * m ≡ length (take {A = ℕ} (3 * m) (replicate (3 * largest) 0))
-  buffer-long = sym (length-take-le {A = ℕ} (3 * m) (replicate (3 * largest) 0) few)
+  buffer-long = lent-long (3 * m) (3 * largest) few
 
   -- the call, with a buffer at the front of zeros for the largest parlour
   module _ {r : ℕ} {x : List ℕ} (call : HeardCall (take (at + size - at) (drop at state)) (take (3 * m) (replicate (3 * largest) 0)) r x)
@@ -59,11 +46,11 @@ module _ {state out : List ℕ} {stall at size m : ℕ} (w : Listed state out st
     heard-code = heard-number _ _ x m r (sym buffer-long) x-long (omega (arith, few)) call
 
     pub records-long : length (x ++ drop (3 * m) (replicate (3 * largest) 0)) ≡ (3 * largest)
-    records-long = length-append x (drop (3 * m) (replicate (3 * largest) 0)) ∙ omega (arith, x-long, buffer-long, length-drop {A = ℕ} (3 * m) (replicate (3 * largest) 0), few)
+    records-long = array-long (3 * m) (3 * largest) few x x-long
 
     the-call : HeardCall (imageOf state stall) (replicate (3 * headsOf state) 0) r x
     the-call =
-        subst (λ l. HeardCall l (replicate (3 * headsOf state) 0) r x) (the-image state out stall at size (w .opened) (stall-of _ _ (w .good)) (w .stands) size-is)
+        subst (λ l. HeardCall l (replicate (3 * headsOf state) 0) r x) (stall-image w)
         (subst (λ l. HeardCall (take (at + size - at) (drop at state)) l r x) (take-zeros (3 * m) (3 * largest) few ∙ ap (λ k. replicate (3 * k) 0) (w .m-is)) call)
 
     pub heard-refused : {out′ : List ℕ} {count : ℕ} → 256 ≤ r → (count ≡ 2) × (out′ ≡ written out ((r - 256) ∷ [])) → Replied state out true (Heard stall) count state out′

@@ -4,8 +4,11 @@ pub mod Parsing
 pub mod Slots
 pub mod Numbers
 pub mod Replying
+pub mod AtStall
+pub mod Lent
 pub mod MeetingLine
 pub mod HeardLine
+pub mod SettledLine
 pub mod Lines
 pub mod Refusals
 pub mod Images

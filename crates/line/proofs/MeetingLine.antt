@@ -15,6 +15,7 @@ use Rattle.line.specs.Parlour.{headsOf, slotPlace, imageOf, withImage}
 use Rattle.line.specs.Answer.{refusal, metBy, meetingOf, meeting}
 use Rattle.line.specs.Asked.{Opened, StallOf}
 use Rattle.line.proofs.Numbers.{meeting-code}
+use Rattle.line.proofs.Lent.{lent-long, array-long, front-long, the-front}
 use Rattle.line.proofs.Replying.{image-short, image-fits, the-image, part-long, put-image}
 
 -- a meeting, refused for its stalls and not
@@ -71,7 +72,7 @@ module _ {state out : List ℕ} {n p q m count a b : ℕ} (w : Stalls state out 
   fits-second = image-fits state out q b count (w .opened) second-good (w .b-is) long
 
   pub zeros-long : m ≡ length (take {A = ℕ} m (replicate largest 0))
-  zeros-long = sym (length-take-le {A = ℕ} m (replicate largest 0) m-to)
+  zeros-long = lent-long m largest m-to
 
   -- the copy of the second's image
   module _ (image : List ℕ) (image-is : image ≡ take count (drop b state) ++ replicate (longest - count) 0) where
@@ -84,8 +85,8 @@ module _ {state out : List ℕ} {n p q m count a b : ℕ} (w : Stalls state out 
         ∙ length-append (take count (drop b state)) (replicate (longest - count) 0)
         ∙ omega (arith, part, length-replicate {A = ℕ} (longest - count) 0, short)
 
-    pub lent-long : count ≡ length (take count image)
-    lent-long = sym (length-take-le count image (omega (arith, image-long, short)))
+    pub second-long : count ≡ length (take count image)
+    second-long = sym (length-take-le count image (omega (arith, image-long, short)))
 
     lent-second : take count image ≡ imageOf state q
     unfolding imageOf
@@ -125,20 +126,18 @@ module _ {state out : List ℕ} {n p q m count a b : ℕ} (w : Stalls state out 
       may-write = (
         short,
         omega (arith, length-after, fits-second),
-        length-append s (drop count image) ∙ omega (arith, s-long, lent-long, length-drop count image, image-long, short),
+        length-append s (drop count image) ∙ omega (arith, s-long, second-long, length-drop count image, image-long, short),
       )
 
       -- the verdicts stand at the front of their array
       pub verdicts-long : length (v ++ drop m (replicate largest 0)) ≡ largest
-      verdicts-long =
-          length-append v (drop m (replicate largest 0))
-          ∙ omega (arith, v-long, length-take-le {A = ℕ} m (replicate largest 0) m-to, length-drop {A = ℕ} m (replicate largest 0), m-to)
+      verdicts-long = array-long m largest m-to v v-long
 
       pub told-long : m ≡ length (take m (v ++ drop m (replicate largest 0)))
-      told-long = sym (length-take-le m (v ++ drop m (replicate largest 0)) (omega (arith, verdicts-long, m-to)))
+      told-long = front-long m largest m-to v v-long
 
       pub the-verdicts : take m (v ++ drop m (replicate largest 0)) ≡ v
-      the-verdicts = take-at v (drop m (replicate largest 0)) m (v-long ∙ length-take-le {A = ℕ} m (replicate largest 0) m-to)
+      the-verdicts = the-front m largest m-to v v-long
 
       pub code : r ≤ 265
       code = meeting-code (take (a + count - a) (drop a state)) (take count image) (take m (replicate largest 0)) met
@@ -150,10 +149,10 @@ module _ {state out : List ℕ} {n p q m count a b : ℕ} (w : Stalls state out 
         after-both : x ≡ withImage (withImage state p f) q s
         unfolding withImage
         after-both =
-            let e : b + count ≡ slotPlace q + length s = omega (arith, w .b-is, s-long, lent-long) in
+            let e : b + count ≡ slotPlace q + length s = omega (arith, w .b-is, s-long, second-long) in
             x-is
             ∙ ap (λ y. take b y ++ take count (s ++ drop count image) ++ drop (b + count) y) after-first
-            ∙ ap (λ z. take b (withImage state p f) ++ z ++ drop (b + count) (withImage state p f)) (take-at s (drop count image) count (s-long ∙ sym lent-long))
+            ∙ ap (λ z. take b (withImage state p f) ++ z ++ drop (b + count) (withImage state p f)) (take-at s (drop count image) count (s-long ∙ sym second-long))
             ∙ ap₂ (λ i j. take i (withImage state p f) ++ s ++ drop j (withImage state p f)) (w .b-is) e
 
         pub met-refused : 256 ≤ r → meetingOf state p q ≡ record { bytes = (r - 256) ∷ []; state = x }

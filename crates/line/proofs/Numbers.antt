@@ -18,6 +18,7 @@ use Rattle.image.proofs.Passing.{either}
 use Rattle.image.proofs.Stages.{refused-le}
 use Rattle.image.proofs.Accepted.{accepted}
 use Rattle.head.specs.Calls.{Outcome, milked, milkingCall}
+use Rattle.head.specs.Settled.{Settled, settledCounts, settledFrom, settledCall}
 use Rattle.head.specs.Heard.{recordOf, HeardList, HeardInto, HeardFrom, HeardCall}
 use Rattle.merge.specs.Verdict.{undecided}
 use Rattle.merge.specs.Call.{MeetingOutcome, refusedMeeting, acceptedMeeting, metTogether, metGood, metChecked, meetingCall}
@@ -38,6 +39,21 @@ milking-number s yield = go (checked s) refl
 
 pub milking-code : (s : List ℕ) (yield : ℕ) {r : ℕ} {image : List ℕ} → _≡_ {A = Outcome} (record { answer = r; image = image }) (milkingCall s yield) → r ≤ 6
 milking-code s yield e = omega (arith, ap (λ (o : Outcome). o .answer) e, milking-number s yield)
+
+-- the numbers of a head come with 0, or with a number up to 8
+module _ (s buffer : List ℕ) where
+  settled-number : settledCall s buffer .answer ≤ 8
+  unfolding settledFrom
+  settled-number = go (checked s) refl
+    where
+      go : (x : Checked) → checked s ≡ x → settledFrom s buffer x .answer ≤ 8
+      go (Good h) e =
+          either (λ (o : Settled). o .answer ≤ 8) (not (eqb (length buffer) (h .n))) {x = record { answer = 8; counts = buffer }} {y = record { answer = 0; counts = settledCounts s (h .n) }}
+          (omega arith) (omega arith)
+      go (Refused number) e = omega (arith, refused-le s e)
+
+  pub settled-code : {r : ℕ} {counts : List ℕ} → _≡_ {A = Settled} (record { answer = r; counts = counts }) (settledCall s buffer) → r ≤ 8
+  settled-code e = omega (arith, ap (λ (o : Settled). o .answer) e, settled-number)
 
 -- a meeting answers its label, or 256 plus a number up to 9
 module _ (s u buffer : List ℕ) where

@@ -18,13 +18,14 @@ use Rattle.image.specs.declared.Checked.the-variants.{Good, Refused}
 use Rattle.image.proofs.Passing.{either}
 use Rattle.image.proofs.Accepted.{accepted}
 use Rattle.head.specs.Calls.{refused, accepted as done, withCurrent, milked, milkingCall}
+use Rattle.head.specs.Settled.{settledCall}
 use Rattle.merge.specs.Verdict.{undecided}
 use Rattle.merge.specs.Call.{MeetingOutcome, refusedMeeting, acceptedMeeting, metTogether, metGood, metChecked, meetingCall}
 use Rattle.merge.proofs.label.NewLabel.{newLabel-most}
 use Rattle.line.specs.Parlour.{stateLength, headsOf, isOpen, slotPlace, imageOf, withImage, freshState}
-use Rattle.line.specs.Answer.{Reply, answerBytes, refusal, opening, milkedBy, milking, metBy, meetingOf, meeting, showing, HeardAnswer, Replies}
+use Rattle.line.specs.Answer.{Reply, refusal, opening, milkedBy, milking, metBy, meetingOf, meeting, showing, HeardAnswer, settledBy, settling, Replies}
 use Rattle.line.specs.declared.frame.Frame.{Frame}
-use Rattle.line.specs.declared.frame.Frame.the-variants.{Open, Milking, Meeting, Show, Heard, Bad}
+use Rattle.line.specs.declared.frame.Frame.the-variants.{Open, Milking, Meeting, Show, Heard, Settled, Bad}
 use Rattle.line.proofs.Slots.{slot-fits}
 use Rattle.line.proofs.Replying.{count-range, stall-of}
 
@@ -104,16 +105,20 @@ module _ (state : List ℕ) where
   showing-alone stall =
       choice (badStall (headsOf state) stall) (refusal state 3) (record { bytes = 0 ∷ imageOf state stall; state = state }) (λ _. refused-alone 3) (λ _ f. absurd (f refl))
 
-  answer-alone : (count : ℕ) (more : List ℕ) → Alone state (record { bytes = answerBytes count more; state = state })
-  answer-alone count more = go (ltb count 256)
-    where
-      go : (b : Bool) → Alone state (record { bytes = cond b (0 ∷ more) ((count - 256) ∷ []); state = state })
-      go true f = absurd (f refl)
-      go false f = (refl, refl)
+  -- 00 and some bytes, or a number
+  told-alone : (b : Bool) (more : List ℕ) (number : ℕ) → Alone state (record { bytes = cond b (0 ∷ more) (number ∷ []); state = state })
+  told-alone true more number f = absurd (f refl)
+  told-alone false more number f = (refl, refl)
 
   heard-alone : (stall : ℕ) (reply : Reply) (b : Bool) → HeardAnswer state stall reply b → Alone state reply
   heard-alone stall reply true e = subst (Alone state) (sym e) (refused-alone 3)
-  heard-alone stall reply false w = subst (Alone state) (sym (w .replied)) (answer-alone (w .count) (w .count ∷ take (3 * w .count) (w .records)))
+  heard-alone stall reply false w = subst (Alone state) (sym (w .replied)) (told-alone (ltb (w .count) 256) (w .count ∷ take (3 * w .count) (w .records)) (w .count - 256))
+
+  settling-alone : (stall : ℕ) → Alone state (settling state stall)
+  unfolding settling
+  settling-alone stall =
+      let o = settledCall (imageOf state stall) (replicate (headsOf state) 0) in
+      choice (badStall (headsOf state) stall) (refusal state 3) (settledBy state o) (λ _. refused-alone 3) (λ _. told-alone (eqb (o .answer) 0) (o .counts) (o .answer))
 
   module _ (long : length state ≡ stateLength) (opened : isOpen state ≡ true) where
     milking-alone : (stall yield : ℕ) → Alone state (milking state stall yield)
@@ -160,7 +165,9 @@ refusal-alone state frame reply long = go (isOpen state) refl frame
     go true o (Meeting p q) r = is (meeting state p q) (meeting-alone state long o p q) r
     go true o (Show stall) r = is (showing state stall) (showing-alone state stall) r
     go true o (Heard stall) r = heard-alone state stall reply (badStall (headsOf state) stall) r
+    go true o (Settled stall) r = is (settling state stall) (settling-alone state stall) r
     go false o (Milking stall yield) r = is (refusal state 11) (refused-alone state 11) r
     go false o (Meeting p q) r = is (refusal state 11) (refused-alone state 11) r
     go false o (Show stall) r = is (refusal state 11) (refused-alone state 11) r
     go false o (Heard stall) r = is (refusal state 11) (refused-alone state 11) r
+    go false o (Settled stall) r = is (refusal state 11) (refused-alone state 11) r

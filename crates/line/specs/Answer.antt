@@ -11,12 +11,13 @@ use Rattle.image.specs.Layout.{isCount, longest}
 use Rattle.image.specs.Check.{badStall}
 use Rattle.head.specs.Calls.{Outcome, milkingCall}
 use Rattle.head.specs.Heard.{HeardCall}
+use Rattle.head.specs.Settled.{Settled as SettledOutcome, settledCall}
 use Rattle.merge.specs.Call.{MeetingOutcome, meetingCall}
 use Rattle.line.specs.Digits.{digitsOf}
 use Rattle.line.specs.Frame.{frameOf}
 use Rattle.line.specs.Parlour.{stateLength, headsOf, isOpen, imageOf, withImage, freshState}
 use Rattle.line.specs.declared.frame.Frame.{Frame}
-use Rattle.line.specs.declared.frame.Frame.the-variants.{Open, Milking, Meeting, Show, Heard, Bad}
+use Rattle.line.specs.declared.frame.Frame.the-variants.{Open, Milking, Meeting, Show, Heard, Settled, Bad}
 
 -- the bytes of an answer, and the state afterwards
 pub record Reply : Type 0 where
@@ -75,6 +76,14 @@ module _ (state : List ℕ) where
   HeardAnswer stall reply true = reply ≡ refusal 3
   HeardAnswer stall reply false = HeardReply stall reply
 
+  -- Request 2026-05: "answers `00`, then for each stall the number of stalls that this head knows to have heard its latest of that stall", or the call's refusal
+  abbrev pub settledBy : SettledOutcome → Reply
+  settledBy o = record { bytes = cond (eqb (o .answer) 0) (0 ∷ o .counts) (o .answer ∷ []); state = state }
+
+  -- 3: a stall not 1 to N; the call is lent a buffer of N bytes
+  unfoldable pub settling : ℕ → Reply
+  settling stall = cond (badStall (headsOf state) stall) (refusal 3) (settledBy (settledCall (imageOf state stall) (replicate (headsOf state) 0)))
+
   -- what a frame may be answered with while a parlour is open, and before
   abbrev pub Replies : Bool → Frame → Reply → Type 0
   Replies opened Bad reply = reply ≡ refusal 10
@@ -84,10 +93,12 @@ module _ (state : List ℕ) where
   Replies true (Meeting p q) reply = reply ≡ meeting p q
   Replies true (Show stall) reply = reply ≡ showing stall
   Replies true (Heard stall) reply = HeardAnswer stall reply (badStall (headsOf state) stall)
+  Replies true (Settled stall) reply = reply ≡ settling stall
   Replies false (Milking stall yield) reply = reply ≡ refusal 11
   Replies false (Meeting p q) reply = reply ≡ refusal 11
   Replies false (Show stall) reply = reply ≡ refusal 11
   Replies false (Heard stall) reply = reply ≡ refusal 11
+  Replies false (Settled stall) reply = reply ≡ refusal 11
 
 -- some bytes as digits at the start of a buffer, the rest of it as it was
 unfoldable pub written : List ℕ → List ℕ → List ℕ

@@ -1,22 +1,25 @@
--- Document 01's listing as lines, its examples for the numbers 10 and 11 and those of the other numbers that a line can draw, by evaluation.
+-- Document 01's listing as lines, its examples for the numbers 10 and 11, those of the other numbers that a line can draw, and request 2026-05's kind on the listing, by
+-- evaluation.
 use Prim.Native.Nat.{ℕ}
 use mathlib.Core.Path.{_≡_, refl}
 use mathlib.Core.Bool.{Bool, true, false, true≢false}
 use mathlib.Core.List.{List, [], _∷_, _++_, map, flatMap}
 use lib.ListN.{replicate}
+use Rattle.image.specs.Stalls.{count}
 use Rattle.image.specs.Examples.{notMilked, listing}
 use Rattle.merge.specs.Examples.{evaluated as merge-evaluated}
 use Rattle.head.specs.Calls.{milked, milkingCall}
+use Rattle.head.specs.Settled.{settledCounts, settledFrom}
 use Rattle.line.specs.Digits.{isDigit, digitValue, allDigits, wholePairs, pairValue, bytesOf, digitOf, digitsOf}
 use Rattle.line.specs.Frame.{kindOfTwo, kindOfThree, kindOfFour, frameOfBytes, frameOf}
 use Rattle.line.specs.Parlour.{stateLength, isOpen, imageOf, withImage, freshSlot, freshState}
-use Rattle.line.specs.Answer.{Reply, refusal, opening, milking, meetingOf, meeting, showing, Replies}
+use Rattle.line.specs.Answer.{Reply, refusal, opening, milking, meetingOf, meeting, showing, settling, Replies}
 use Rattle.line.specs.declared.frame.Frame.{Frame}
-use Rattle.line.specs.declared.frame.Frame.the-variants.{Open, Milking, Meeting, Show, Heard, Bad}
+use Rattle.line.specs.declared.frame.Frame.the-variants.{Open, Milking, Meeting, Show, Heard, Settled, Bad}
 
 -- whoever unfolds this unfolds all that an answer is computed with
 unfoldable pub answered : Unit {0}
-unfolding flatMap merge-evaluated milked milkingCall isDigit digitValue allDigits wholePairs pairValue bytesOf digitOf digitsOf kindOfTwo kindOfThree kindOfFour frameOfBytes frameOf imageOf withImage freshSlot freshState opening milking meetingOf meeting showing
+unfolding flatMap merge-evaluated milked milkingCall count settledCounts settledFrom isDigit digitValue allDigits wholePairs pairValue bytesOf digitOf digitsOf kindOfTwo kindOfThree kindOfFour frameOfBytes frameOf imageOf withImage freshSlot freshState opening milking meetingOf meeting showing settling
 answered = tt
 
 -- the one reply to any frame but a heard list's
@@ -28,10 +31,12 @@ replyTo state true (Milking stall yield) = milking state stall yield
 replyTo state true (Meeting p q) = meeting state p q
 replyTo state true (Show stall) = showing state stall
 replyTo state true (Heard stall) = refusal state 0
+replyTo state true (Settled stall) = settling state stall
 replyTo state false (Milking stall yield) = refusal state 11
 replyTo state false (Meeting p q) = refusal state 11
 replyTo state false (Show stall) = refusal state 11
 replyTo state false (Heard stall) = refusal state 11
+replyTo state false (Settled stall) = refusal state 11
 
 abbrev isList : Frame → Bool
 isList (Heard stall) = true
@@ -39,6 +44,7 @@ isList (Open n) = false
 isList (Milking stall yield) = false
 isList (Meeting p q) = false
 isList (Show stall) = false
+isList (Settled stall) = false
 isList Bad = false
 
 pub one-reply : (state : List ℕ) (opened : Bool) (frame : Frame) (reply : Reply) → isList frame ≡ false → Replies state opened frame reply → reply ≡ replyTo state opened frame
@@ -50,10 +56,12 @@ one-reply state true (Milking stall yield) reply e r = r
 one-reply state true (Meeting p q) reply e r = r
 one-reply state true (Show stall) reply e r = r
 one-reply state true (Heard stall) reply e r = absurd (true≢false e)
+one-reply state true (Settled stall) reply e r = r
 one-reply state false (Milking stall yield) reply e r = r
 one-reply state false (Meeting p q) reply e r = r
 one-reply state false (Show stall) reply e r = r
 one-reply state false (Heard stall) reply e r = r
+one-reply state false (Settled stall) reply e r = r
 
 -- the answers to some lines in turn, as bytes
 unfoldable pub answersTo : List ℕ → List (List ℕ) → List (List ℕ)
@@ -100,7 +108,7 @@ bad-examples : answersTo shut
     ((0x30 ∷ [])
     ∷ []
     ∷ (0x30 ∷ 0x34 ∷ 0x30 ∷ 0x41 ∷ [])
-    ∷ digitsOf (0x06 ∷ 0x01 ∷ [])
+    ∷ digitsOf (0x08 ∷ 0x01 ∷ [])
     ∷ digitsOf (0x01 ∷ 0x03 ∷ 0x00 ∷ [])
     ∷ (digitsOf (0x01 ∷ 0x03 ∷ []) ++ (0x0d ∷ []))
     ∷ [])
@@ -140,3 +148,25 @@ stall-examples : answersTo shut (map digitsOf
     ∷ (0 ∷ ((2 ∷ 1 ∷ 0x03 ∷ 0xe7 ∷ replicate 8 0) ++ notMilked 2 ++ replicate 2 0)) ∷ []
 unfolding answered replyTo answersTo
 stall-examples = refl
+
+-- 11 before any opening. A fresh head has heard nobody. After the listing's meetings 1-2 and 2-3, heads 2 and 3 know stall 1's latest, 1-2, to lie in the past of everybody's
+-- latest, and 2-3 in that of stalls 2 and 3; head 1 has 1-2 alone, and never heard stall 3. 3: a stall that is not there; 10: a length that is not the kind's.
+settled-examples : answersTo shut (map digitsOf
+    ((0x06 ∷ 0x01 ∷ [])
+    ∷ (0x01 ∷ 0x03 ∷ [])
+    ∷ (0x06 ∷ 0x03 ∷ [])
+    ∷ (0x02 ∷ 0x01 ∷ 0x00 ∷ 0x12 ∷ [])
+    ∷ (0x03 ∷ 0x01 ∷ 0x02 ∷ [])
+    ∷ (0x03 ∷ 0x02 ∷ 0x03 ∷ [])
+    ∷ (0x06 ∷ 0x01 ∷ [])
+    ∷ (0x06 ∷ 0x02 ∷ [])
+    ∷ (0x06 ∷ 0x03 ∷ [])
+    ∷ (0x06 ∷ 0x00 ∷ [])
+    ∷ (0x06 ∷ 0x04 ∷ [])
+    ∷ (0x06 ∷ [])
+    ∷ (0x06 ∷ 0x01 ∷ 0x01 ∷ [])
+    ∷ []))
+    ≡ (11 ∷ []) ∷ (0 ∷ []) ∷ (0 ∷ 0 ∷ 0 ∷ 0 ∷ []) ∷ (0 ∷ []) ∷ (0 ∷ 0 ∷ 0 ∷ 0 ∷ 0 ∷ []) ∷ (0 ∷ 0 ∷ 1 ∷ 1 ∷ 0 ∷ [])
+    ∷ (0 ∷ 2 ∷ 2 ∷ 0 ∷ []) ∷ (0 ∷ 3 ∷ 2 ∷ 2 ∷ []) ∷ (0 ∷ 3 ∷ 2 ∷ 2 ∷ []) ∷ (3 ∷ []) ∷ (3 ∷ []) ∷ (10 ∷ []) ∷ (10 ∷ []) ∷ []
+unfolding answered replyTo answersTo
+settled-examples = refl

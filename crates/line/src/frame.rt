@@ -13,6 +13,7 @@ pub enum Frame {
     Meeting(u8, u8),
     Show(u8),
     Heard(u8),
+    Settled(u8),
     Bad,
 }
 
@@ -28,6 +29,9 @@ fn of_two(kind: u8, x: u8) -> Frame
     }
     if kind == 5 {
         return Frame::Heard(x);
+    }
+    if kind == 6 {
+        return Frame::Settled(x);
     }
     Frame::Bad
 }

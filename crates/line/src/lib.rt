@@ -5,7 +5,7 @@ ghost use mathlib.Core.List.{[], _∷_};
 ghost use Prim.Native.Nat.{_+_, _*_, _≤_};
 ghost use lib.ListN.{length};
 ghost use Rattle.line.specs.Parlour.{headsOf};
-ghost use Rattle.line.specs.Answer.{opening, milking, meetingOf, meeting, showing, written, Given, Replied, AnswerCall};
+ghost use Rattle.line.specs.Answer.{opening, milking, meetingOf, meeting, showing, settling, written, Given, Replied, AnswerCall};
 ghost use Rattle.line.specs.Asked.{Ready, Opened, StallOf};
 ghost use Rattle.line.specs.declared.frame.Frame.the-variants.{Heard};
 use crate::digits::put_byte;
@@ -169,6 +169,26 @@ fn heard(state: &[u8], stall: u8, out: &mut [u8]) -> usize
     reply_with(out, count as u8, &records[..used])
 }
 
+// Shows for each stall how many stalls the head at the named one knows to have heard its latest of that stall.
+fn settled(state: &[u8], stall: u8, out: &mut [u8]) -> usize
+    requires { ⌜ Opened (now state) (now out) ⌝ }
+    ensures { λ r. ⌜ Given (now (out .entry)) (settling (now (state .entry)) stall) r (now (state .entry)) (now (out .exit)) ⌝ }
+{
+    let n = state[0];
+    if bad_stall(n, stall) {
+        return reply_byte(out, 3);
+    }
+    let at = place_of(stall);
+    let m = wide(n);
+    let end = at + length_of(m);
+    let mut counts = [0u8; STALLS];
+    let number = head::wilbryn_settled(&state[at..end], &mut counts[..m]);
+    if number != 0 {
+        return reply_byte(out, number as u8);
+    }
+    reply_bytes(out, &counts[..m])
+}
+
 // The answer to a frame while a parlour is open.
 fn answer_open(state: &mut [u8], frame: Frame, out: &mut [u8]) -> usize
     requires { ⌜ Opened (now state) (now out) ⌝ }
@@ -181,6 +201,7 @@ fn answer_open(state: &mut [u8], frame: Frame, out: &mut [u8]) -> usize
         Frame::Meeting(p, q) => meet(state, p, q, out),
         Frame::Show(stall) => show(state, stall, out),
         Frame::Heard(stall) => heard(state, stall, out),
+        Frame::Settled(stall) => settled(state, stall, out),
     }
 }
 
@@ -196,6 +217,7 @@ fn answer_shut(state: &mut [u8], frame: Frame, out: &mut [u8]) -> usize
         Frame::Meeting(_, _) => reply_byte(out, 11),
         Frame::Show(_) => reply_byte(out, 11),
         Frame::Heard(_) => reply_byte(out, 11),
+        Frame::Settled(_) => reply_byte(out, 11),
     }
 }
 

@@ -14,11 +14,12 @@ use Rattle.head.specs.Calls.{milkingCall}
 use Rattle.head.specs.Heard.{HeardList}
 use Rattle.head.proofs.HeardLists.{heard-few}
 use Rattle.head.proofs.HeardCalls.{heard-accepted}
+use Rattle.head.specs.Settled.{settledCall}
 use Rattle.merge.specs.Call.{meetingCall}
 use Rattle.line.specs.Parlour.{headsOf, imageOf, withImage, freshState}
-use Rattle.line.specs.Answer.{Reply, refusal, answerBytes, opening, milkedBy, milking, meetingOf, meeting, showing, HeardAnswer as LineHeard, Replies}
+use Rattle.line.specs.Answer.{Reply, refusal, answerBytes, opening, milkedBy, milking, meetingOf, meeting, showing, HeardAnswer as LineHeard, settledBy, settling, Replies}
 use Rattle.line.specs.declared.frame.Frame.{Frame}
-use Rattle.line.specs.declared.frame.Frame.the-variants.{Open, Milking, Meeting, Show, Heard, Bad}
+use Rattle.line.specs.declared.frame.Frame.the-variants.{Open, Milking, Meeting, Show, Heard, Settled, Bad}
 use Rattle.line.proofs.Replying.{count-range, stall-of}
 use Rattle.parlour.specs.Item as Item
 use Rattle.parlour.specs.Item.{counts, history}
@@ -27,6 +28,7 @@ use Rattle.parlour.specs.Claim.{isAccepted, refusal as refusalOf}
 use Rattle.parlour.proofs.Milkings.{milking-claim, milking-kept}
 use Rattle.parlour.proofs.Meetings.{meeting-claim, meeting-kept}
 use Rattle.parlour.proofs.Existence.{milking-call, meeting-call}
+use Rattle.settled.proofs.Settling.{answered}
 use Rattle.sessions.specs.Lines.{opens, itemsOf}
 use Rattle.sessions.specs.Answer.{Answer}
 use Rattle.sessions.proofs.Standing.{Open as IsOpen, kept-agree, kept-long, put-own, put-other, put-agree, placed, is-open, opened}
@@ -111,6 +113,19 @@ module _ (its : List Item.Item) (state : List ℕ) (w : IsOpen (history (headsOf
             bytes-are = rw (lt-ltb (d .count) 256 few);
           })))
 
+  -- the numbers of the stall's head
+  settled-step : (stall : ℕ) → Step (Settled stall) (settling state stall)
+  unfolding settling itemsOf
+  settled-step stall = go (badStall n stall) refl
+    where
+      go : (t : Bool) → badStall n stall ≡ t → Step (Settled stall) (cond t (refusal state 3) (settledBy state (settledCall (imageOf state stall) (replicate n 0))))
+      go true e = stay (Settled stall) (3 ∷ []) refl (rw (count, e))
+      go false e =
+          let r = stall-of n stall e in
+          let o = settledCall (imageOf state stall) (replicate n 0) in
+          let said = answered (w .kept) stall (r .from) (r .to) {buffer = replicate n 0} {counts = o .counts} {answer = o .answer} refl .accepted (length-replicate {A = ℕ} n 0) in
+          stay (Settled stall) (settledBy state o .bytes) refl (rw (count, e) (rw (said .0) (ap (λ c. 0 ∷ c) (said .1))))
+
   -- a meeting of two stalls that are there
   meet-good : (p q : ℕ) → badStall n p ≡ false → badStall n q ≡ false → eqb p q ≡ false → Step (Meeting p q) (meetingOf state p q)
   unfolding meetingOf itemsOf history counts isAccepted
@@ -157,6 +172,7 @@ module _ (its : List Item.Item) (state : List ℕ) (w : IsOpen (history (headsOf
   open-step (Meeting p q) reply e = subst (Step (Meeting p q)) (sym e) (meet-step p q)
   open-step (Show stall) reply e = subst (Step (Show stall)) (sym e) (show-step stall)
   open-step (Heard stall) reply r = heard-step stall reply r
+  open-step (Settled stall) reply e = subst (Step (Settled stall)) (sym e) (settled-step stall)
 
 fresh-heads : (n : ℕ) → headsOf (freshState n) ≡ n
 unfolding freshState
@@ -199,3 +215,4 @@ module _ (state : List ℕ) (n : ℕ) (none : isCount n ≡ false) where
   shut-step (Meeting p q) reply e = subst (Shut (Meeting p q)) (sym e) (stay-shut (Meeting p q) (11 ∷ []) refl (rw none))
   shut-step (Show stall) reply e = subst (Shut (Show stall)) (sym e) (stay-shut (Show stall) (11 ∷ []) refl (rw none))
   shut-step (Heard stall) reply e = subst (Shut (Heard stall)) (sym e) (stay-shut (Heard stall) (11 ∷ []) refl (rw none refl))
+  shut-step (Settled stall) reply e = subst (Shut (Settled stall)) (sym e) (stay-shut (Settled stall) (11 ∷ []) refl (rw none))

@@ -40,7 +40,7 @@ after {ls} {state} w line out count state′ out′ l call =
       stands = subst (Stands (line ∷ ls)) (sym (r .given .state-is)) (n .stands);
     }
 
-session-stands : {done : List Answered} {state : List ℕ} → Session done state → Stands (lines done) state
+pub session-stands : {done : List Answered} {state : List ℕ} → Session done state → Stands (lines done) state
 session-stands begun = stands-start
 session-stands (answered s line out count state′ out′ l call) = after (session-stands s) line out count state′ out′ l call .stands
 

@@ -4,5 +4,6 @@ pub mod Answers
 pub mod Stands
 pub mod Replying
 pub mod Calls
+pub mod SettledLines
 pub mod Inputs
 pub mod Theory

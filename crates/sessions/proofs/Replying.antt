@@ -10,7 +10,7 @@ use Rattle.line.specs.Parlour.{headsOf, imageOf}
 use Rattle.line.specs.Answer.{Reply, refusal, answerBytes, HeardAnswer, Replies}
 use Rattle.line.specs.Examples.{replyTo}
 use Rattle.line.specs.declared.frame.Frame.{Frame}
-use Rattle.line.specs.declared.frame.Frame.the-variants.{Open, Milking, Meeting, Show, Heard, Bad}
+use Rattle.line.specs.declared.frame.Frame.the-variants.{Open, Milking, Meeting, Show, Heard, Settled, Bad}
 
 pub record ReplyTo (state : List ℕ) (opened : Bool) (frame : Frame) : Type 0 where
   pub reply : Reply
@@ -37,7 +37,9 @@ reply-exists state true (Milking stall yield) = record { reply = replyTo state t
 reply-exists state true (Meeting p q) = record { reply = replyTo state true (Meeting p q); replies = refl }
 reply-exists state true (Show stall) = record { reply = replyTo state true (Show stall); replies = refl }
 reply-exists state true (Heard stall) = heard-reply state stall
+reply-exists state true (Settled stall) = record { reply = replyTo state true (Settled stall); replies = refl }
 reply-exists state false (Milking stall yield) = record { reply = replyTo state false (Milking stall yield); replies = refl }
 reply-exists state false (Meeting p q) = record { reply = replyTo state false (Meeting p q); replies = refl }
 reply-exists state false (Show stall) = record { reply = replyTo state false (Show stall); replies = refl }
 reply-exists state false (Heard stall) = record { reply = replyTo state false (Heard stall); replies = refl }
+reply-exists state false (Settled stall) = record { reply = replyTo state false (Settled stall); replies = refl }

@@ -1,4 +1,4 @@
--- What a line is answered, from the lines before it alone: labels, verdicts, images and refusals are those of the history of the items that count.
+-- What a line is answered, from the lines before it alone: labels, verdicts, images, numbers of stalls and refusals are those of the history of the items that count.
 use Prim.Native.Nat.{ℕ, _*_}
 use mathlib.Core.Path.{_≡_}
 use mathlib.Core.Bool.{Bool, true, false, cond}
@@ -13,8 +13,9 @@ use Rattle.head.specs.Heard.{HeardList}
 use Rattle.parlour.specs.Item.{Item, meeting}
 use Rattle.parlour.specs.History.{meetings, events}
 use Rattle.parlour.specs.Table.{imageAfter}
+use Rattle.settled.specs.Count.{countsAfter}
 use Rattle.line.specs.declared.frame.Frame.{Frame}
-use Rattle.line.specs.declared.frame.Frame.the-variants.{Open, Milking, Meeting, Show, Heard, Bad}
+use Rattle.line.specs.declared.frame.Frame.the-variants.{Open, Milking, Meeting, Show, Heard, Settled, Bad}
 
 -- in a parlour of n heads (0: none is open) with this history
 module _ (n : ℕ) (l : List Item) where
@@ -52,3 +53,5 @@ module _ (n : ℕ) (l : List Item) where
   Answer (Meeting p q) bytes = bytes ≡ inParlour (atStall p (atStall q (cond (eqb p q) (7 ∷ []) (metBytes p q))))
   Answer (Show stall) bytes = bytes ≡ inParlour (atStall stall (0 ∷ imageAfter n l stall))
   Answer (Heard stall) bytes = HeardAnswer stall bytes (isCount n) (badStall n stall)
+  -- Request 2026-05: "Line kind `06` with a stall answers `00`, then for each stall the number of stalls that this head knows to have heard its latest of that stall"
+  Answer (Settled stall) bytes = bytes ≡ inParlour (atStall stall (0 ∷ countsAfter n l stall))

@@ -1,4 +1,4 @@
--- Document 01's listing, and a head that meets before it is milked, from input to output, by evaluation of what lines alone say.
+-- Document 01's listing, a head that meets before it is milked, and who has heard it all, from input to output, by evaluation of what lines alone say.
 use Prim.Native.Nat.{ℕ}
 use mathlib.Core.Path.{_≡_, refl}
 use mathlib.Core.List.{List, [], _∷_, _++_}
@@ -11,6 +11,7 @@ use Rattle.line.specs.Examples.{answered, frames, answers}
 use Rattle.parlour.specs.Item.{milking, meeting}
 use Rattle.parlour.specs.Table.{imageAfter}
 use Rattle.parlour.specs.Examples.{evaluated}
+use Rattle.settled.specs.Examples as Settled
 use Rattle.stream.specs.Stream.{newline}
 use Rattle.sessions.specs.Lines.{opens, heads, itemsOf, items}
 use Rattle.sessions.specs.Answer.{HeardBytes}
@@ -64,3 +65,20 @@ not-milked-example =
     (digitsOf (0x02 ∷ 0x01 ∷ 0x00 ∷ 0x00 ∷ [])) (0x00 ∷ []) refl)
     (digitsOf (0x03 ∷ 0x01 ∷ 0x02 ∷ [])) (0x00 ∷ 0x00 ∷ 0x00 ∷ 0x00 ∷ []) refl)
     (digitsOf (0x05 ∷ 0x02 ∷ [])) (0x00 ∷ 0x02 ∷ 0x01 ∷ 0x00 ∷ 0x00 ∷ 0x02 ∷ 0xff ∷ 0xff ∷ []) not-milked-list
+
+-- three heads, 1-2, 2-3, then 1-3: head 3's number for stall 1 is 3, and 2 once it has heard of a newer meeting of stall 1
+settled-example : AnswersTo (linesOf (text ((0x01 ∷ 0x03 ∷ []) ∷ (0x03 ∷ 0x01 ∷ 0x02 ∷ []) ∷ (0x03 ∷ 0x02 ∷ 0x03 ∷ []) ∷ (0x06 ∷ 0x03 ∷ []) ∷ (0x03 ∷ 0x01 ∷ 0x03 ∷ []) ∷ (0x06 ∷ 0x03 ∷ []) ∷ [])))
+    (text ((0x00 ∷ []) ∷ (0x00 ∷ 0x00 ∷ 0x00 ∷ 0x00 ∷ 0x00 ∷ []) ∷ (0x00 ∷ 0x00 ∷ 0x01 ∷ 0x01 ∷ 0x00 ∷ []) ∷ (0x00 ∷ 0x03 ∷ 0x02 ∷ 0x02 ∷ []) ∷ (0x00 ∷ 0x00 ∷ 0x00 ∷ 0x02 ∷ 0x02 ∷ []) ∷ (0x00 ∷ 0x02 ∷ 0x03 ∷ 0x02 ∷ []) ∷ []))
+unfolding answered evaluated Settled.evaluated linesFrom text opens heads itemsOf items
+settled-example =
+    one-more
+    (one-more
+    (one-more
+    (one-more
+    (one-more
+    (one-more none (digitsOf (0x01 ∷ 0x03 ∷ [])) (0x00 ∷ []) refl)
+    (digitsOf (0x03 ∷ 0x01 ∷ 0x02 ∷ [])) (0x00 ∷ 0x00 ∷ 0x00 ∷ 0x00 ∷ 0x00 ∷ []) refl)
+    (digitsOf (0x03 ∷ 0x02 ∷ 0x03 ∷ [])) (0x00 ∷ 0x00 ∷ 0x01 ∷ 0x01 ∷ 0x00 ∷ []) refl)
+    (digitsOf (0x06 ∷ 0x03 ∷ [])) (0x00 ∷ 0x03 ∷ 0x02 ∷ 0x02 ∷ []) refl)
+    (digitsOf (0x03 ∷ 0x01 ∷ 0x03 ∷ [])) (0x00 ∷ 0x00 ∷ 0x00 ∷ 0x02 ∷ 0x02 ∷ []) refl)
+    (digitsOf (0x06 ∷ 0x03 ∷ [])) (0x00 ∷ 0x02 ∷ 0x03 ∷ 0x02 ∷ []) refl

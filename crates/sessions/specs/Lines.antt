@@ -8,7 +8,7 @@ use Rattle.image.specs.Layout.{isCount}
 use Rattle.image.specs.Check.{badStall}
 use Rattle.line.specs.Frame.{frameOf}
 use Rattle.line.specs.declared.frame.Frame.{Frame}
-use Rattle.line.specs.declared.frame.Frame.the-variants.{Open, Milking, Meeting, Show, Heard, Bad}
+use Rattle.line.specs.declared.frame.Frame.the-variants.{Open, Milking, Meeting, Show, Heard, Settled, Bad}
 use Rattle.parlour.specs.Item.{Item, milking, meeting, history}
 
 -- how many heads a line opens a parlour of, 0 for none
@@ -18,6 +18,7 @@ opens (Milking stall yield) = 0
 opens (Meeting p q) = 0
 opens (Show stall) = 0
 opens (Heard stall) = 0
+opens (Settled stall) = 0
 opens Bad = 0
 
 -- the parlour that the first such line opened
@@ -32,6 +33,7 @@ itemsOf n (Milking stall yield) = cond (badStall n stall) [] (milking stall yiel
 itemsOf n (Meeting p q) = cond (badStall n p || badStall n q || eqb p q) [] (meeting p q (replicate n 0) ∷ [])
 itemsOf n (Show stall) = []
 itemsOf n (Heard stall) = []
+itemsOf n (Settled stall) = []
 itemsOf n Bad = []
 
 -- the items of all lines; before an opening there are none

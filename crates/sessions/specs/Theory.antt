@@ -1,11 +1,20 @@
 -- The theorems of `sessions`, as one record with a field for each. `proofs/Theory.antt` proves it.
-use Prim.Native.Nat.{ℕ}
+use Prim.Native.Nat.{ℕ, _≤_}
 use mathlib.Core.Path.{_≡_}
-use mathlib.Core.List.{List}
+use mathlib.Core.Bool.{true}
+use mathlib.Core.List.{List, _++_}
+use lib.ListN.{getD}
+use Rattle.image.specs.Layout.{isCount}
+use Rattle.line.specs.Parlour.{imageOf}
+use Rattle.line.specs.declared.frame.Frame.the-variants.{Settled}
 use Rattle.line.proofs.answer.Statement as answer
 use Rattle.stream.proofs.feed.Statement as feed
 use Rattle.stream.proofs.finish.Statement as finish
 use Rattle.stream.specs.Stream.{Whole}
+use Rattle.settled.specs.Count.{latestAfter}
+use Rattle.settled.specs.Theory.{IsSettled}
+use Rattle.sessions.specs.Lines.{heads, historyOf}
+use Rattle.sessions.specs.Answer.{Answer}
 use Rattle.sessions.specs.Session.{Answered, Session}
 use Rattle.sessions.specs.Claim.{lines, ImagesOf, Claim}
 use Rattle.sessions.specs.Input.{linesOf, AnswersTo}
@@ -32,6 +41,13 @@ pub record FinishedOf (input : List ℕ) : Type 0 where
 pub record Theory : Type 0 where
   -- Demand 3, of lines: calls of line::answer, from the empty state on.
   pub claim : (done : List Answered) (state : List ℕ) → Session done state → Claim done state
+  -- Request 2026-05, of lines: after lines that leave a parlour of N heads open, where `06` with stall p is answered with N for stall r, every head has the meeting that is p's
+  -- latest of r at that moment, or a newer one of r, then and after whatever lines follow. (The number itself may fall: settled/specs/Examples.antt: falls-again.)
+  -- What a session, an input in blocks or a run of the program leaves is a state with the images of its lines: `claim`, `blocks`, `runs`.
+  pub settled : (ls : List (List ℕ)) (p r : ℕ) (bytes : List ℕ) → isCount (heads ls) ≡ true → Answer (heads ls) (historyOf ls) (Settled p) bytes
+      → 1 ≤ r → r ≤ heads ls → getD bytes r 0 ≡ heads ls
+      → (later : List (List ℕ)) (state : List ℕ) → ImagesOf (later ++ ls) state
+      → IsSettled (heads ls) (historyOf (later ++ ls)) (imageOf state) r (latestAfter (historyOf ls) p r)
   -- Every list of lines has its calls.
   pub sessions-exist : (ls : List (List ℕ)) → SessionOf ls
   -- From input to answers, in whatever blocks it comes.

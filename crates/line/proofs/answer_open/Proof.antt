@@ -1,6 +1,6 @@
 -- The answer to a frame while a parlour is open.
 use mathlib.Core.Path.{refl}
-use Rattle.line.specs.Answer.{refusal, milking, meeting, showing}
+use Rattle.line.specs.Answer.{refusal, milking, meeting, showing, settling}
 use Rattle.line.proofs.Replying.{given-byte, replied, replied-to}
 use borrow.Author.Needs.{needs}
 use Rattle.line.proofs.answer_open.Statement.{statement}
@@ -10,6 +10,8 @@ pub answer-open-spec : {M : Type 1} → statement M
 answer-open-spec =
     tie.close
     (tie.spec
+    (λ c. search needs)
+    (λ c κs. search needs)
     (λ c. search needs)
     (λ c κs. search needs)
     (λ c. search needs)
@@ -37,4 +39,7 @@ answer-open-spec =
     (λ c. replied (showing _ _) (c .before .before .before .before .before .before .frame3 .given .1) refl (c .before .before .show .ensures))
     (λ c. search needs)
     (λ c. search needs)
-    (λ c. replied-to (c .before .before .before .before .before .before .frame4 .given .1) (c .before .before .heard .ensures)))
+    (λ c. replied-to (c .before .before .before .before .before .before .frame4 .given .1) (c .before .before .heard .ensures))
+    (λ c. search needs)
+    (λ c. search needs)
+    (λ c. replied (settling _ _) (c .before .before .before .before .before .before .frame5 .given .1) refl (c .before .before .settled .ensures)))

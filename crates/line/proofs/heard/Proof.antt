@@ -2,7 +2,8 @@
 use mathlib.Core.Path.{sym, _∙_}
 use native.Mathlib.Omega.{arith}
 use Rattle.line.proofs.Replying.{stall-of}
-use Rattle.line.proofs.HeardLine.{heard-bad, list-fits, buffer-long, heard-code, heard-refused, used-fits, used-long, heard-done}
+use Rattle.line.proofs.AtStall.{stall-fits}
+use Rattle.line.proofs.HeardLine.{heard-bad, buffer-long, heard-code, heard-refused, used-fits, used-long, heard-done}
 use borrow.Author.Needs.{needs}
 use Rattle.line.proofs.heard.Statement.{statement}
 use Rattle.line.proofs.heard.Tie as tie
@@ -19,10 +20,10 @@ heard-spec =
     (λ c κs. stall-of _ _ (sym (c .before .bad-stall .ensures) ∙ c .if1 .left) .from)
     (λ c κs. search needs)
     (λ c κs. search needs)
-    (λ c. omega (arith, list-fits (record { opened = c .before .before .before .before .before .before .before .before .pre; good = sym (c .before .before .before .before .bad-stall .ensures) ∙ c .before .before .before .if1 .left; stands = c .before .before .place-of .ensures; long = c .length-of .ensures; m-is = c .before .wide .ensures .0 })))
+    (λ c. omega (arith, stall-fits (record { opened = c .before .before .before .before .before .before .before .before .pre; good = sym (c .before .before .before .before .bad-stall .ensures) ∙ c .before .before .before .if1 .left; stands = c .before .before .place-of .ensures; long = c .length-of .ensures; m-is = c .before .wide .ensures .0 })))
     (λ c. search needs)
     (λ c. search needs)
-    (λ c. list-fits (record { opened = c .before .before .before .before .before .before .before .before .pre; good = sym (c .before .before .before .before .bad-stall .ensures) ∙ c .before .before .before .if1 .left; stands = c .before .before .place-of .ensures; long = c .length-of .ensures; m-is = c .before .wide .ensures .0 }))
+    (λ c. stall-fits (record { opened = c .before .before .before .before .before .before .before .before .pre; good = sym (c .before .before .before .before .bad-stall .ensures) ∙ c .before .before .before .if1 .left; stands = c .before .before .place-of .ensures; long = c .length-of .ensures; m-is = c .before .wide .ensures .0 }))
     (λ c. search needs)
     (λ c. search needs)
     (λ c. buffer-long (record { opened = c .before .before .before .before .before .before .before .before .before .before .pre; good = sym (c .before .before .before .before .before .before .bad-stall .ensures) ∙ c .before .before .before .before .before .if1 .left; stands = c .before .before .before .before .place-of .ensures; long = c .before .before .length-of .ensures; m-is = c .before .before .before .wide .ensures .0 }))

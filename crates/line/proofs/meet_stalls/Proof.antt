@@ -1,7 +1,7 @@
 -- A meeting of the heads at two stalls.
 use native.Mathlib.Omega.{arith}
 use Rattle.line.proofs.Replying.{given-byte, given-bytes}
-use Rattle.line.proofs.MeetingLine.{m-to, short, fits-first, fits-second, image-long, lent-long, may-write, verdicts-long, told-long, zeros-long, code, met-refused, met-done}
+use Rattle.line.proofs.MeetingLine.{m-to, short, fits-first, fits-second, image-long, second-long, may-write, verdicts-long, told-long, zeros-long, code, met-refused, met-done}
 use borrow.Author.Needs.{needs}
 use Rattle.line.proofs.meet_stalls.Statement.{statement}
 use Rattle.line.proofs.meet_stalls.Tie as tie
@@ -20,7 +20,7 @@ meet-stalls-spec =
     (λ c. search needs)
     (λ c. fits-first (record { opened = c .before .before .before .before .before .before .before .before .pre .0; n-is = c .before .before .before .before .before .before .before .before .pre .1; first = c .before .before .before .before .before .before .before .before .pre .2; second = c .before .before .before .before .before .before .before .before .pre .3; m-is = c .before .before .before .before .before .wide .ensures .0; count-is = c .before .before .before .before .length-of .ensures; a-is = c .before .before .before .place-of .ensures; b-is = c .before .before .place-of2 .ensures }))
     (λ c. omega (arith, short (record { opened = c .before .before .before .before .before .before .before .before .before .pre .0; n-is = c .before .before .before .before .before .before .before .before .before .pre .1; first = c .before .before .before .before .before .before .before .before .before .pre .2; second = c .before .before .before .before .before .before .before .before .before .pre .3; m-is = c .before .before .before .before .before .before .wide .ensures .0; count-is = c .before .before .before .before .before .length-of .ensures; a-is = c .before .before .before .before .place-of .ensures; b-is = c .before .before .before .place-of2 .ensures }), image-long (record { opened = c .before .before .before .before .before .before .before .before .before .pre .0; n-is = c .before .before .before .before .before .before .before .before .before .pre .1; first = c .before .before .before .before .before .before .before .before .before .pre .2; second = c .before .before .before .before .before .before .before .before .before .pre .3; m-is = c .before .before .before .before .before .before .wide .ensures .0; count-is = c .before .before .before .before .before .length-of .ensures; a-is = c .before .before .before .before .place-of .ensures; b-is = c .before .before .before .place-of2 .ensures }) (c .before .image-at .result) (c .before .image-at .ensures)))
-    (λ c. lent-long (record { opened = c .before .before .before .before .before .before .before .before .before .before .pre .0; n-is = c .before .before .before .before .before .before .before .before .before .before .pre .1; first = c .before .before .before .before .before .before .before .before .before .before .pre .2; second = c .before .before .before .before .before .before .before .before .before .before .pre .3; m-is = c .before .before .before .before .before .before .before .wide .ensures .0; count-is = c .before .before .before .before .before .before .length-of .ensures; a-is = c .before .before .before .before .before .place-of .ensures; b-is = c .before .before .before .before .place-of2 .ensures }) (c .before .before .image-at .result) (c .before .before .image-at .ensures))
+    (λ c. second-long (record { opened = c .before .before .before .before .before .before .before .before .before .before .pre .0; n-is = c .before .before .before .before .before .before .before .before .before .before .pre .1; first = c .before .before .before .before .before .before .before .before .before .before .pre .2; second = c .before .before .before .before .before .before .before .before .before .before .pre .3; m-is = c .before .before .before .before .before .before .before .wide .ensures .0; count-is = c .before .before .before .before .before .before .length-of .ensures; a-is = c .before .before .before .before .before .place-of .ensures; b-is = c .before .before .before .before .place-of2 .ensures }) (c .before .before .image-at .result) (c .before .before .image-at .ensures))
     (λ c. search needs)
     (λ c. zeros-long (record { opened = c .before .before .before .before .before .before .before .before .before .before .before .pre .0; n-is = c .before .before .before .before .before .before .before .before .before .before .before .pre .1; first = c .before .before .before .before .before .before .before .before .before .before .before .pre .2; second = c .before .before .before .before .before .before .before .before .before .before .before .pre .3; m-is = c .before .before .before .before .before .before .before .before .wide .ensures .0; count-is = c .before .before .before .before .before .before .before .length-of .ensures; a-is = c .before .before .before .before .before .before .place-of .ensures; b-is = c .before .before .before .before .before .place-of2 .ensures }))
     (λ c κs. search needs)

@@ -1,0 +1,24 @@
+-- A buffer lent to a call: the front of an array of zeros, as long as the call wants it.
+use Prim.Native.Nat.{ℕ, _≤_}
+use mathlib.Core.Path.{_≡_, sym, _∙_}
+use mathlib.Core.List.{List, _++_}
+use native.Mathlib.Omega.{arith}
+use lib.ListN.{length, take, drop, replicate, length-append, length-drop, length-replicate}
+use lib.Seq.{length-take-le, take-at}
+
+module _ (k size : ℕ) (fits : k ≤ size) where
+  pub lent-long : k ≡ length (take {A = ℕ} k (replicate size 0))
+  lent-long = sym (length-take-le {A = ℕ} k (replicate size 0) (omega (arith, length-replicate {A = ℕ} size 0, fits)))
+
+  -- what the call leaves there
+  module _ (x : List ℕ) (same : length x ≡ length (take {A = ℕ} k (replicate size 0))) where
+    pub array-long : length (x ++ drop k (replicate size 0)) ≡ size
+    array-long =
+        length-append x (drop k (replicate size 0))
+        ∙ omega (arith, same, lent-long, length-drop {A = ℕ} k (replicate size 0), length-replicate {A = ℕ} size 0, fits)
+
+    pub front-long : k ≡ length (take k (x ++ drop k (replicate size 0)))
+    front-long = sym (length-take-le k (x ++ drop k (replicate size 0)) (omega (arith, array-long, fits)))
+
+    pub the-front : take k (x ++ drop k (replicate size 0)) ≡ x
+    the-front = take-at x (drop k (replicate size 0)) k (same ∙ sym lent-long)
