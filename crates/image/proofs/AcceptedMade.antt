@@ -3,13 +3,13 @@ use Prim.Native.Nat.{ℕ, _^_, _≤_, _<_}
 use mathlib.Core.Path.{ap₂}
 use mathlib.Core.List.{List}
 use native.Mathlib.Omega.{arith}
-use Rattle.image.specs.Layout.{labelLimit, partnerAt, labelAt, nameFrom, nameAt, heardAt}
+use Rattle.image.specs.Layout.{partnerAt, labelAt, nameFrom, nameAt, heardAt}
 use Rattle.image.specs.Check.{badYields, badDiagonal, badUnheard, badRow, badNames, badOrder, badMarks}
 use Rattle.image.specs.Encode.{tableOf}
 use Rattle.image.specs.Made.{Made}
 use Rattle.image.proofs.Accepted.{Accepted}
 use Rattle.image.proofs.Passing.{passing}
-use Rattle.image.proofs.NameBytes.{never, name-in}
+use Rattle.image.proofs.NameBytes.{never, name-in, limit-bits}
 
 pub accepted-made : {s : List ℕ} {n own : ℕ} → Accepted s n own → Made n own (tableOf s n)
 unfolding tableOf nameAt heardAt badYields badDiagonal badUnheard badRow badNames badOrder badMarks
@@ -31,5 +31,5 @@ accepted-made {s} {n} {own} w =
 
 -- each label byte is within the limit, and that is below 32
 pub label-bits : {s : List ℕ} {n own : ℕ} → Accepted s n own → (r c : ℕ) → 1 ≤ r → r ≤ n → 1 ≤ c → c ≤ n → labelAt s n r c < 2 ^ 5
-unfolding labelLimit badRow badNames
-label-bits w r c i j k l = let names = simp passing at (w .names) in omega (arith, names r i j .0 .0 c k l .1, w .frame .n-to)
+unfolding badRow badNames
+label-bits {n = n} w r c i j k l = let names = simp passing at (w .names) in omega (arith, names r i j .0 .0 c k l .1, limit-bits n (w .frame .n-to))

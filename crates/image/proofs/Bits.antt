@@ -3,12 +3,12 @@ use Prim.Native.Nat.{ℕ, zero, suc, _+_, _-_, _*_, _/_, _%_, _^_, _≤_, _<_, m
 use mathlib.Core.Path.{_≡_, refl, sym, ap, ap₂, _∙_}
 use mathlib.Core.Bool.{Bool, true, false, _&&_, _||_, not, cond, true≢false, false≢true}
 use native.Mathlib.Omega.{arith}
-use native.Mathlib.Nat.{pow-succ', div-div-eq-div-mul, zero-div}
+use native.Mathlib.Nat.{pow-succ', div-div-eq-div-mul, mod-lt, zero-div}
 use native.Mathlib.Decide.{decLe, decLt, ℕ-discrete}
 use borrow.Author.Tests.{eq-eqb, ne-eqb, le-leb, lt-leb}
 use lib.Dec.{eqb, leb}
 use lib.Bits.{bitAnd, bitOr, and-step, or-step, and-le-l, and-le-r, and-high, block-half, block-odd}
-use lib.Pow.{pow-pos, pow-add}
+use lib.Pow.{pow-pos, pow-add, split}
 use Rattle.image.specs.Stalls.{some, bits, has, bitOf}
 
 -- Digits
@@ -120,6 +120,16 @@ has-or a b (suc k) l =
 pub has-zero : (s : ℕ) → has 0 s ≡ false
 unfolding has
 has-zero s = rw (zero-div (2 ^ (s - 1)))
+
+-- the highest that there is room for
+pub has-top : (k b : ℕ) → b < 2 ^ suc k → has b (suc k) ≡ leb (2 ^ k) b
+unfolding digit
+has-top k b l = has-digit b k ∙ go (b / 2 ^ k) (split b k)
+  where
+    go : (d : ℕ) → d * 2 ^ k + b % 2 ^ k ≡ b → eqb (d % 2) 1 ≡ leb (2 ^ k) b
+    go zero e = sym (lt-leb (2 ^ k) b (omega (arith, mod-lt b (pow-pos k))))
+    go (suc zero) e = sym (le-leb (2 ^ k) b (omega arith))
+    go (suc (suc d)) e = absurd (omega (arith, pow-succ' 2 k))
 
 -- The set that a test picks
 
@@ -269,6 +279,15 @@ one-test (suc (suc d)) k l = absurd (omega arith)
 pub bit-test : (b s : ℕ) → not (eqb (bitAnd b (2 ^ (s - 1))) 0) ≡ has b s
 unfolding has digit
 bit-test b s = ap (λ x. not (eqb x 0)) (and-one b (s - 1)) ∙ one-test (digit b (s - 1)) (s - 1) (digit-lt b (s - 1))
+
+-- what is left by `&` with it
+pub bit-left : (b k : ℕ) → bitAnd b (2 ^ k) ≡ cond (has b (suc k)) (2 ^ k) 0
+bit-left b k = and-one b k ∙ go (digit b k) (digit-lt b k) ∙ ap (λ t. cond t (2 ^ k) 0) (sym (has-digit b k))
+  where
+    go : (d : ℕ) → d < 2 → d * 2 ^ k ≡ cond (eqb d 1) (2 ^ k) 0
+    go zero l = omega arith
+    go (suc zero) l = omega arith
+    go (suc (suc d)) l = absurd (omega arith)
 
 pub bitOf-is : {s : ℕ} → 1 ≤ s → s ≤ 64 → bitOf s ≡ 2 ^ (s - 1)
 unfolding bitOf

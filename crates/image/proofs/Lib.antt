@@ -2,6 +2,8 @@
 pub mod Search
 pub mod Counts
 pub mod Bits
+pub mod Windows
+pub mod Lanes
 pub mod Tables
 pub mod Gather
 pub mod Places
@@ -21,6 +23,10 @@ pub mod Fill
 pub mod SameBody
 pub mod Passing
 pub mod NameBytes
+pub mod NameLanes
+pub mod YieldLanes
+pub mod MarkLanes
+pub mod RowWords
 pub mod Made
 pub mod MadeAccepted
 pub mod AcceptedMade

@@ -1,11 +1,11 @@
 -- Two bytes as a name: what the tests of them say of it.
-use Prim.Native.Nat.{ℕ, zero, suc, _≤_}
+use Prim.Native.Nat.{ℕ, zero, suc, _^_, _≤_, _<_}
 use mathlib.Core.Path.{_≡_, refl, sym, ap, _∙_}
 use mathlib.Core.Logic.{_↔_}
 use mathlib.Core.List.{[], _∷_}
 use native.Mathlib.Omega.{arith}
 use borrow.Author.Tests.{ne-eqb}
-use Rattle.image.specs.Layout.{labelLimit, nameFrom}
+use Rattle.image.specs.Layout.{largest, labelLimit, nameFrom}
 use Rattle.image.specs.Encode.{nameBytes}
 use Rattle.image.specs.Made.{NameIn}
 use Rattle.image.specs.declared.Meet.{Meet}
@@ -38,3 +38,8 @@ pub same-bytes : (p l q k : ℕ) → (p ≡ 0 → l ≡ 0) → (q ≡ 0 → k �
 same-bytes p l q k d e i =
     let b : p ∷ l ∷ [] ≡ q ∷ k ∷ [] = sym (bytes-back p l d) ∙ ap nameBytes i ∙ bytes-back q k e in
     (cc, cc)
+
+-- the limit of labels, in five bits
+pub limit-bits : (n : ℕ) → n ≤ largest → labelLimit n < 2 ^ 5
+unfolding labelLimit
+limit-bits n l = omega arith

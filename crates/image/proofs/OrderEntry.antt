@@ -1,16 +1,21 @@
 -- An order entry: how many bytes it has, what they say, and where it stands. All that depends on its width is here, and in src/orders.rt and its proofs.
-use Prim.Native.Nat.{ℕ, _+_, _-_, _%_, _^_, _≤_, _<_}
-use mathlib.Core.Path.{_≡_, refl, ap, _∙_}
+use Prim.Native.Nat.{ℕ, suc, _+_, _-_, _*_, _/_, _%_, _^_, _≤_, _<_}
+use mathlib.Core.Path.{_≡_, refl, sym, ap, _∙_}
+use mathlib.Core.Bool.{cond}
 use mathlib.Core.List.{List, _++_}
 use native.Mathlib.Omega.{arith}
-use native.Mathlib.Nat.{mul-le-mul-right}
-use borrow.Author.Tests.{le-leb}
+use native.Mathlib.Nat.{mul-le-mul, mul-le-mul-right}
+use native.Mathlib.Decide.{decLt}
+use borrow.Author.Tests.{le-leb, lt-ltb, le-ltb}
+use lib.Dec.{ltb}
 use lib.ListN.{length, getD, take, drop, replicate}
-use lib.Pow.{pow-mono}
+use lib.Pow.{pow-mono, shr-le}
 use lib.Seq.{sets, sets-eq}
-use Rattle.image.specs.Layout.{largest, lengthOf, orderWidth, orderFrom, orderPlace, imageLength}
+use Rattle.image.specs.Layout.{largest, lengthOf, orderWidth, orderFrom, orderPlace, orderAt, imageLength}
+use Rattle.image.specs.Lanes.{lanes, lane}
 use Rattle.image.specs.Encode.{orderBytes}
 use Rattle.image.proofs.Search.{times-step}
+use Rattle.image.proofs.Lanes.{Fits, lanes-agree, lanes-lt, lanes-of, lane-of, lane-shift, lane-beyond}
 use Rattle.image.proofs.Has.{Has, has-first, has-one}
 
 -- Its width
@@ -18,6 +23,10 @@ use Rattle.image.proofs.Has.{Has, has-first, has-one}
 pub order-wide : (n : ℕ) → 1 ≤ orderWidth n
 unfolding orderWidth
 order-wide n = omega arith
+
+-- a byte at least for each stall
+pub orders-long : (n : ℕ) → n ≤ n * orderWidth n
+orders-long n = omega (arith, mul-le-mul {n₁ = n} {m₁ = 1} {n₂ = n} {m₂ = orderWidth n} (omega arith) (order-wide n))
 
 -- at most that of the largest parlour
 pub order-most : (n : ℕ) → n ≤ largest → orderWidth n ≤ orderWidth largest
@@ -85,3 +94,29 @@ entry-within n m r e i a l = omega (arith, ap orderWidth i, order-within {n = n}
 
 pub entry-next : (n m r : ℕ) {width at : ℕ} → m ≡ n → width ≡ orderWidth m → at ≡ orderPlace n (r + 1) → at + width ≡ orderPlace n (r + 1 + 1)
 entry-next n m r i w a = omega (arith, ap orderWidth i, order-next n (r + 1) (omega arith))
+
+-- All of them in a word, a byte for each stall
+
+module _ (s : List ℕ) (n place : ℕ) (bytes : (k : ℕ) → getD s k 0 < 256) (n-to : n ≤ largest) (ends : place + 8 ≡ imageLength n) where
+  abbrev last-eight : ℕ
+  last-eight = lanes 8 8 (λ i. getD s (place + i) 0)
+
+  fit : Fits 8 8 (λ i. getD s (place + i) 0)
+  fit = record { below = λ i l. bytes (place + i) }
+
+  entry-lane : (i : ℕ) → i < 8 → lane 8 last-eight (8 - n + i) ≡ cond (ltb i n) (orderAt s n (suc i)) 0
+  unfolding orderWidth orderFrom
+  entry-lane i l = elim (decLt i n) [
+    | yes a ↦
+        let k : place + (8 - n + i) ≡ orderPlace n (suc i) = omega arith in
+        lane-of 8 8 (λ i. getD s (place + i) 0) fit (8 - n + i) (omega arith) ∙ ap (λ k. getD s k 0) k ∙ ap (λ t. cond t (orderAt s n (suc i)) 0) (sym (lt-ltb i n a))
+    | no a ↦
+        lane-beyond 8 8 last-eight (8 - n + i) (lanes-lt 8 8 (λ i. getD s (place + i) 0) fit) (omega arith)
+        ∙ ap (λ t. cond t (orderAt s n (suc i)) 0) (sym (le-ltb i n (omega arith)))
+  ]
+
+  pub order-lanes : last-eight / 2 ^ (8 * (8 - n)) ≡ lanes 8 8 (λ i. cond (ltb i n) (orderAt s n (suc i)) 0)
+  order-lanes =
+      lanes-of 8 8 (last-eight / 2 ^ (8 * (8 - n))) (omega (arith, shr-le last-eight (8 * (8 - n)), lanes-lt 8 8 (λ i. getD s (place + i) 0) fit))
+      ∙ lanes-agree 8 8 (lane 8 (last-eight / 2 ^ (8 * (8 - n)))) (λ i. cond (ltb i n) (orderAt s n (suc i)) 0)
+      (λ i l. lane-shift 8 (8 - n) last-eight i ∙ entry-lane i l)

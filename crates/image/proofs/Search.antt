@@ -37,6 +37,10 @@ looked-next {n} {width} {at} {place} {s} {found} {f} w l t e =
       so-far = rw a (ap₂ _||_ e (w .so-far) ∙ sym (some-suc f s (w .from)));
     }
 
+-- what is found may be said in another way
+pub looked-as : {n width at place s : ℕ} {found said : Bool} {f : ℕ → Bool} → said ≡ found → Looked n width at place s found f → Looked n width at place s said f
+looked-as e w = record { from = w .from; to = w .to; stands = w .stands; so-far = e ∙ w .so-far }
+
 pub looked-end : {n width at place s : ℕ} {found : Bool} {f : ℕ → Bool} → Looked n width at place s found f → n < s → found ≡ some n f
 looked-end {n} {s = s} {f = f} w l = let e : s - 1 ≡ n = omega arith in w .so-far ∙ ap (λ k. some k f) e
 

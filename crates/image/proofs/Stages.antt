@@ -52,18 +52,29 @@ module _ (s : List ℕ) (n own : ℕ) where
   unfolding checkBody
   refused-4 a b = rw (a, b)
 
-  pub refused-5 : badStall n own ≡ false → badYields s n ≡ false → badNames s n own ≡ true → Refused 5 ≡ checkBody s n own
-  unfolding checkBody
-  refused-5 a b c = rw (a, b, c)
+  -- where 3 and 4 do not apply
+  abbrev pub later : Checked
+  later = cond (badNames s n own) (Refused 5) (cond (badMarks s n own) (Refused 6) (Good (record { n = n; stall = own })))
 
-  pub refused-6 : badStall n own ≡ false → badYields s n ≡ false → badNames s n own ≡ false → badMarks s n own ≡ true → Refused 6 ≡ checkBody s n own
+  pub later-5 : badNames s n own ≡ true → Refused 5 ≡ later
+  later-5 a = rw a
+
+  pub later-6 : badNames s n own ≡ false → badMarks s n own ≡ true → Refused 6 ≡ later
+  later-6 a b = rw (a, b)
+
+  pub later-good : badNames s n own ≡ false → badMarks s n own ≡ false → Good (record { n = n; stall = own }) ≡ later
+  later-good a b = rw (a, b)
+
+  pub later-body : {r : Checked} → r ≡ later → badStall n own ≡ false → badYields s n ≡ false → r ≡ checkBody s n own
   unfolding checkBody
-  refused-6 a b c d = rw (a, b, c, d)
+  later-body e a b = e ∙ rw (a, b)
+
+  pub refused-5 : badStall n own ≡ false → badYields s n ≡ false → badNames s n own ≡ true → Refused 5 ≡ checkBody s n own
+  refused-5 a b c = later-body (later-5 c) a b
 
   pub good-body : badStall n own ≡ false → badYields s n ≡ false → badNames s n own ≡ false → badMarks s n own ≡ false
       → Good (record { n = n; stall = own }) ≡ checkBody s n own
-  unfolding checkBody
-  good-body a b c d = rw (a, b, c, d)
+  good-body a b c d = later-body (later-good c d) a b
 
 module _ (s : List ℕ) where
   pub refused-empty : length s ≡ 0 → Refused 1 ≡ checked s

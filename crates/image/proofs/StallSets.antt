@@ -62,6 +62,23 @@ unfolding bits
 all-bits zero = refl
 all-bits (suc n) = omega (arith, all-bits n, pow-succ' 2 n, pow-pos n)
 
+-- a set has all of 1 to n exactly where no stall is missing
+pub full-test : (n : ℕ) (f : ℕ → Bool) → eqb (bits n f) (2 ^ n - 1) ≡ not (some n (λ s. not (f s)))
+full-test n f = ap (eqb (bits n f)) (all-bits n) ∙ go (some n (λ s. not (f s))) (some-found n (λ s. not (f s)))
+  where
+    flip : (x : Bool) → not x ≡ true → x ≡ true → ⊥
+    flip true e d = true≢false (sym e)
+    flip false e d = true≢false (sym d)
+
+    set : (x : Bool) → not x ≡ false → x ≡ true
+    set true e = refl
+    set false e = absurd (true≢false e)
+
+    go : (t : Bool) → Found n (λ s. not (f s)) t → eqb (bits n f) (bits n (λ s. true)) ≡ not t
+    go t (at s p q e) =
+        ne-eqb (bits n f) (bits n (λ s. true)) (λ i. flip (f s) e (sym (has-in n f s p q) ∙ ap (λ x. has x s) i ∙ has-in n (λ s. true) s p q))
+    go t (nowhere g) = eq-eqb (bits n f) (bits n (λ s. true)) (bits-agree n f (λ s. true) (λ s p q. set (f s) (g s p q)))
+
 -- the bit behind those of n stalls
 pub next-bit : (n : ℕ) → n < 64 → bitOf (n + 1) ≡ 2 ^ n
 next-bit n l = let i : n + 1 - 1 ≡ n = omega arith in bitOf-is (omega arith) (omega arith) ∙ ap (λ k. 2 ^ k) i

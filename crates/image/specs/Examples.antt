@@ -1,10 +1,11 @@
--- Document 01's examples for the numbers 1 to 6, as request 2026-01 changes them, the yields that it names, the labels that request 2026-02 names, and the listing's
--- image, by evaluation.
-use Prim.Native.Nat.{ℕ, _*_}
+-- Document 01's examples for the numbers 1 to 6, as request 2026-01 changes them, the yields that it names, the labels that request 2026-02 names, the listing's
+-- image, and lanes of words, by evaluation.
+use Prim.Native.Nat.{ℕ, suc, _+_, _*_}
 use mathlib.Core.Path.{_≡_, refl}
 use mathlib.Core.List.{List, [], _∷_, _++_, map}
 use lib.ListN.{replicate}
 use Rattle.image.specs.Stalls.{some, each, bits, has}
+use Rattle.image.specs.Lanes.{lanes, lane, pairs}
 use Rattle.image.specs.Layout.{noYield, isYield, labelLimit, orderWidth, orderFrom, markAt, nameFrom, nameAt, heardAt}
 use Rattle.image.specs.Check.{badCount, badLength, badYields, badDiagonal, badUnheard, badRow, badNames, badOrder, badMarks, checkBody, checked, numberOf}
 use Rattle.image.specs.Encode.{nothing, wordBytes, orderBytes, encode, tableOf}
@@ -104,3 +105,8 @@ listing =
 listing-is-encoded : (number listing ≡ 0) × (encode 3 3 (tableOf listing 3) ≡ listing)
 unfolding evaluated number
 listing-is-encoded = (refl, refl)
+
+-- lanes of a word, the first the lowest: the numbers 1 to 8 in bytes, one of four numbers of 16 bits, and the columns 5 to 8 at the partner bytes of four names
+lane-examples : (lanes 8 8 suc ≡ 0x0807060504030201) × (lane 16 0x0004000300020001 2 ≡ 3) × (pairs (λ j. 4 + suc j) (λ j. 0) ≡ 0x0008000700060005)
+unfolding lanes lane pairs
+lane-examples = (refl, refl, refl)

@@ -3,7 +3,7 @@ use Prim.Native.Nat.{ℕ, _≤_}
 use mathlib.Core.Path.{_≡_}
 use mathlib.Core.List.{List}
 use lib.ListN.{length}
-use Rattle.image.specs.Layout.{largest, rowPlace, yieldPlace, imageLength}
+use Rattle.image.specs.Layout.{largest, imageLength}
 
 -- an image that has passed the checks 1 and 2
 pub record Sized (s : List ℕ) (n : ℕ) : Type 0 where
@@ -18,12 +18,3 @@ pub record Framed (s : List ℕ) (n own : ℕ) : Type 0 where
   pub own-from : 1 ≤ own
   pub own-to : own ≤ n
   pub long : length s ≡ imageLength n
-
--- a stall of the image, and where its row, the own row and its yield start
-pub record RowAt (s : List ℕ) (n own r row ownrow yields : ℕ) : Type 0 where
-  pub framed : Framed s n own
-  pub r-from : 1 ≤ r
-  pub r-to : r ≤ n
-  pub row-is : row ≡ rowPlace n r
-  pub ownrow-is : ownrow ≡ rowPlace n own
-  pub yields-is : yields ≡ yieldPlace n r

@@ -1,5 +1,6 @@
 -- What a reader has to believe of `image`, in this order.
 pub mod Stalls
+pub mod Lanes
 pub mod Layout
 pub mod Encode
 pub mod Fresh

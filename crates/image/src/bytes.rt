@@ -1,9 +1,10 @@
 // Bytes of an image read as numbers, where rows and yields start, and the checks 1 and 3.
 ghost use mathlib.Core.Path.{_≡_};
-ghost use Prim.Native.Nat.{_+_, _-_, _<_};
-ghost use mathlib.Core.Bool.{not};
+ghost use Prim.Native.Nat.{_+_, _-_, _<_, _≤_};
+ghost use mathlib.Core.Bool.{cond, not};
+ghost use lib.Dec.{eqb};
 ghost use lib.ListN.{length};
-ghost use Rattle.image.specs.Layout.{isCount, rowPlace, word, yieldsFrom};
+ghost use Rattle.image.specs.Layout.{isCount, largest, rowPlace, word, yieldsFrom};
 ghost use Rattle.image.specs.Check.{badStall};
 use crate::LARGEST;
 use crate::orders::orders_place;
@@ -34,6 +35,24 @@ pub fn row_place(n: u8, r: u8) -> usize
         s += 1;
     }
     place
+}
+
+// x where a bit is set, 0 where it is not.
+fn if_set(bit: usize, x: usize) -> usize
+    ensures { λ r. ⌜ r ≡ cond (eqb bit 0) 0 x ⌝ }
+{
+    if bit == 0 { 0 } else { x }
+}
+
+// Where the row of stall r starts in an image of n stalls, by the three bits of r - 1: with no product, and no loop that could be made one.
+pub(crate) fn row_start(n: usize, r: usize) -> usize
+    requires { ⌜ (n ≤ largest) × (1 ≤ r) × (r ≤ largest) ⌝ }
+    ensures { λ p. ⌜ p ≡ rowPlace n r ⌝ }
+{
+    let rows = r - 1;
+    let one = n + n;
+    let two = one + one;
+    4 + if_set(rows & 1, one) + if_set(rows & 2, two) + if_set(rows & 4, two + two)
 }
 
 // x less y, 0 where y is larger.

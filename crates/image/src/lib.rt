@@ -1,15 +1,17 @@
 // One table as bytes: its forms in the code, its lengths, and its check.
 ghost use mathlib.Core.Path.{_≡_};
+ghost use mathlib.Core.Bool.{cond};
 ghost use Rattle.image.specs.Layout.{labelLimit, lengthOf, nameFrom};
 ghost use Rattle.image.specs.Fresh.{freshTable};
-ghost use Rattle.image.specs.Frame.{Sized};
-ghost use Rattle.image.specs.Check.{checkBody, checked, numberOf};
+ghost use Rattle.image.specs.Frame.{Sized, Framed};
+ghost use Rattle.image.specs.Check.{badNames, badMarks, checkBody, checked, numberOf};
 
 pub mod bytes;
 pub mod marks;
 mod names;
 pub mod orders;
 pub mod rows;
+mod words;
 mod yields;
 
 // The most heads that a parlour has, the bytes of a row of names of so many, and of their image.
@@ -55,8 +57,8 @@ pub struct Head {
     pub image: [u8; LONGEST],
 }
 
-// Image lengths by the number of stalls.
-const LENGTHS: [usize; STALLS + 1] = [0, 0, 18, 31, 48, 69, 94, 123, LONGEST];
+// Image lengths by the number of stalls; in bytes, since the table is laid out anew at each look.
+const LENGTHS: [u8; STALLS + 1] = [0, 0, 18, 31, 48, 69, 94, 123, LONGEST as u8];
 
 impl Head {
     pub const YIELD_LIMIT: u16 = 999;
@@ -92,7 +94,11 @@ impl Head {
 pub fn length_of(n: usize) -> usize
     ensures { λ r. ⌜ r ≡ lengthOf n ⌝ }
 {
-    if n <= STALLS { LENGTHS[n] } else { 0 }
+    if n <= STALLS {
+        bytes::wide(LENGTHS[n])
+    } else {
+        0
+    }
 }
 
 // Two bytes as a name.
@@ -131,13 +137,27 @@ fn check_body(image: &[u8], n: u8, own: u8) -> Checked
     if bytes::bad_stall(n, own) {
         return Checked::Refused(3);
     }
-    if yields::bad_yields(image, n, own) {
+    if yields::bad_yields(image, bytes::wide(n)) {
         return Checked::Refused(4);
     }
-    if names::bad_names(image, n, own) {
+    names_and_marks(image, n, own)
+}
+
+// The checks 5 and 6.
+fn names_and_marks(image: &[u8], n: u8, own: u8) -> Checked
+    requires { ⌜ Framed (now image) n own ⌝ }
+    ensures { λ r. ⌜ r
+        ≡ cond (badNames (now (image .entry)) n own) (Checked.Refused 5)
+        (cond (badMarks (now (image .entry)) n own) (Checked.Refused 6) (Checked.Good (record { n = n; stall = own }))) ⌝ }
+{
+    let stalls = bytes::wide(n);
+    let stall = bytes::wide(own);
+    let ownrow = bytes::row_start(stalls, stall);
+    let set = marks::heard_set(image, stalls, ownrow);
+    if names::bad_names(image, stalls, stall, ownrow, marks::has_all(set, stalls)) {
         return Checked::Refused(5);
     }
-    if marks::bad_marks(image, n, own) {
+    if marks::bad_marks(image, stalls, stall, set) {
         return Checked::Refused(6);
     }
     Checked::Good(Header { n, stall: own })

@@ -1,19 +1,23 @@
-// The order marks of an image: check 6. Sets of stalls are numbers.
+// The order marks of an image: check 6. Sets of stalls are numbers; in a word, a byte for each stall.
 ghost use mathlib.Core.Path.{_≡_};
-ghost use Prim.Native.Nat.{_+_, _-_, _*_, _^_, _<_, _≤_};
-ghost use mathlib.Core.Bool.{cond, not, _&&_, _||_};
-ghost use lib.Bits.{bitAnd};
+ghost use Prim.Native.Nat.{suc, _+_, _-_, _*_, _^_, _<_, _≤_};
+ghost use mathlib.Core.Bool.{cond, not};
 ghost use lib.Dec.{eqb};
 ghost use lib.ListN.{length, getD};
-ghost use Rattle.image.specs.Stalls.{bits, bitOf};
-ghost use Rattle.image.specs.Layout.{largest, rowPlace};
+ghost use Rattle.image.specs.Stalls.{bits, bitOf, has};
+ghost use Rattle.image.specs.Lanes.{lanes, lane};
+ghost use Rattle.image.specs.Layout.{largest, heardAt};
 ghost use Rattle.image.specs.Frame.{Framed};
 ghost use Rattle.image.specs.Check.{badMarks};
-use crate::bytes::row_place;
-use crate::bytes::wide;
-use crate::orders::order_at;
-use crate::orders::order_width;
-use crate::orders::orders_place;
+use crate::orders::order_bytes;
+use crate::words::EIGHTHS;
+use crate::words::SEVENS;
+use crate::words::eight_times;
+
+// A bit in each byte of a word: the first bit; and in byte r the bit of stall r.
+const ONES: u64 = 0x0101010101010101;
+
+const DIAGONAL: u64 = 0x8040201008040201;
 
 // x, or nothing.
 pub fn pick(b: bool, x: u64) -> u64
@@ -26,6 +30,19 @@ pub fn widen(b: u8) -> u64
     ensures { λ r. ⌜ (r ≡ b) × (r < 256) ⌝ }
 {
     b as u64
+}
+
+// The bit of a stall.
+pub fn bit_of(s: u8) -> u64
+    ensures { λ r. ⌜ r ≡ bitOf s ⌝ }
+{
+    if s < 1 {
+        return 0;
+    }
+    if 64 < s {
+        return 0;
+    }
+    1u64 << (s - 1)
 }
 
 // The stalls that the row that starts at a place has a name for.
@@ -46,62 +63,32 @@ pub(crate) fn heard_set(image: &[u8], n: usize, at: usize) -> u64
     set
 }
 
-// The order entry b of a stall is bad, by whether the stall is heard, which stalls are, its bit and the own stall's.
-fn bad_order(b: u64, heard: bool, set: u64, one: u64, own: u64) -> bool
-    ensures { λ r.
-        ⌜ r
-        ≡ (not (eqb (bitAnd b (cond heard set 0)) b)
-        || heard && not (not (eqb (bitAnd b one) 0) && not (eqb (bitAnd b own) 0))) ⌝ }
+// A set of stalls has all of 1 to n.
+pub(crate) fn has_all(set: u64, n: usize) -> bool
+    requires { ⌜ n ≤ largest ⌝ }
+    ensures { λ r. ⌜ r ≡ eqb set (2 ^ n - 1) ⌝ }
 {
-    !((b & pick(heard, set)) == b) | (heard & !(!((b & one) == 0) & !((b & own) == 0)))
+    set == (1u64 << n) - 1
 }
 
-// The bit of a stall.
-pub fn bit_of(s: u8) -> u64
-    ensures { λ r. ⌜ r ≡ bitOf s ⌝ }
+// In each byte, all bits where the set has its stall, and none where it has not.
+fn heard_bytes(sets: u64) -> u64
+    ensures { λ r. ⌜ r ≡ lanes 8 8 (λ i. cond (has (lane 8 sets i) (suc i)) 255 0) ⌝ }
 {
-    if s < 1 {
-        return 0;
-    }
-    if 64 < s {
-        return 0;
-    }
-    1u64 << (s - 1)
+    ((((sets & DIAGONAL) + SEVENS) & EIGHTHS) >> 7) * 255
 }
 
-// Some order entry is bad.
-fn bad_orders(image: &[u8], n: usize, own: usize, ownrow: usize, ownbit: u64) -> bool
-    requires { ⌜ Framed (now image) n own × (ownrow ≡ rowPlace n own) × (ownbit ≡ 2 ^ (own - 1)) ⌝ }
+// Check 6, by the set of heard stalls: no mark but of a heard stall to a heard one, and of each of these to itself and to the own stall.
+pub(crate) fn bad_marks(image: &[u8], n: usize, own: usize, set: u64) -> bool
+    requires { ⌜ Framed (now image) n own × (set ≡ bits n (heardAt (now image) n own)) ⌝ }
     ensures { λ b. ⌜ b ≡ badMarks (now (image .entry)) n own ⌝ }
 {
-    let set = heard_set(image, n, ownrow);
-    let mut bad = false;
-    let mut one = 1u64;
-    let width = order_width(n);
-    let mut at = orders_place(image.len(), n);
-    let mut place = ownrow;
-    let mut r = 1usize;
-    while r <= n {
-        bad = bad_order(
-            order_at(image, n, at),
-            !(image[place] == 0),
-            set,
-            one,
-            ownbit,
-        )
-            | bad;
-        one += one;
-        at += width;
-        place += 2;
-        r += 1;
-    }
-    bad
-}
-
-// Check 6.
-pub(crate) fn bad_marks(image: &[u8], n: u8, own: u8) -> bool
-    requires { ⌜ Framed (now image) n own ⌝ }
-    ensures { λ b. ⌜ b ≡ badMarks (now (image .entry)) n own ⌝ }
-{
-    bad_orders(image, wide(n), wide(own), row_place(n, own), bit_of(own))
+    let orders = order_bytes(image, n);
+    let sets = eight_times(set);
+    let heard = heard_bytes(sets);
+    let stalls = heard & DIAGONAL;
+    let owns = heard & (ONES << (own - 1));
+    !((orders & (sets & heard)) == orders)
+        | !((orders & stalls) == stalls)
+        | !((orders & owns) == owns)
 }

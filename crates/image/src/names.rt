@@ -1,47 +1,71 @@
-// The names of an image: check 5.
+// The names of an image: check 5. Names are looked at four at a time, in words.
 ghost use mathlib.Core.Path.{_≡_};
-ghost use Prim.Native.Nat.{_+_, _-_, _*_, _<_, _≤_};
-ghost use mathlib.Core.Bool.{not};
+ghost use Prim.Native.Nat.{suc, _+_, _-_, _*_, _<_, _≤_};
+ghost use mathlib.Core.Bool.{not, _&&_, _||_};
 ghost use lib.Dec.{eqb};
 ghost use lib.ListN.{length, getD};
 ghost use Rattle.image.specs.Stalls.{some};
-ghost use Rattle.image.specs.Layout.{labelLimit, rowPlace};
-ghost use Rattle.image.specs.Frame.{Framed, RowAt};
-ghost use Rattle.image.specs.Check.{badName, badRow, badNames};
+ghost use Rattle.image.specs.Lanes.{lane, pairs};
+ghost use Rattle.image.specs.Layout.{labelLimit, labelAt, largest, noYield, partnerAt, rowPlace, heardAt, word};
+ghost use Rattle.image.specs.Frame.{Framed};
+ghost use Rattle.image.specs.Check.{badName, badDiagonal, badUnheard, badNames};
 use crate::Head;
-use crate::bytes::row_place;
-use crate::bytes::wide;
 use crate::bytes::word_at;
 use crate::bytes::yields_place;
+use crate::words::EIGHTHS;
+use crate::words::SEVENS;
+use crate::words::eight;
+use crate::words::first_lanes;
+use crate::words::four_times;
 use crate::yields::is_not_milked;
 
-// A name in a column is bad by itself.
-fn bad_name(n: usize, limit: usize, column: usize, partner: usize, label: usize) -> bool
-    ensures { λ r. ⌜ r ≡ badName n limit column partner label ⌝ }
+// The eighth bit of the partner bytes of four names, and the columns 1 to 4 at these bytes.
+const PARTNER_EIGHTHS: u64 = 0x0080008000800080;
+
+const FIRST_COLUMNS: u64 = 0x0004000300020001;
+
+// What takes the partner bytes of four names to 128 and above where they are over n, and the label bytes where they are over the limit.
+fn limits_of(n: usize) -> u64
+    requires { ⌜ (2 ≤ n) × (n ≤ largest) ⌝ }
+    ensures { λ r. ⌜ r ≡ pairs (λ j. 127 - n) (λ j. 127 - labelLimit n) ⌝ }
 {
-    if partner == 0 {
-        return !(label == 0) | (partner == column);
-    }
-    (n < partner) | (partner == column) | (limit < label)
+    SEVENS - four_times((Head::label_limit(n as u8) * 256 + n) as u64)
 }
 
-// Some name of the row that starts at a place is bad by itself.
-fn bad_in_row(image: &[u8], n: usize, limit: usize, at: usize) -> bool
-    requires { ⌜ at + n * 2 ≤ length (now image) ⌝ }
-    ensures { λ r.
-        ⌜ r
-        ≡ some n
-        (λ c. badName n limit c (getD (now (image .entry)) (at + (c - 1) * 2) 0) (getD (now (image .entry)) (at + (c - 1) * 2 + 1) 0)) ⌝ }
+// The columns behind column c, at the partner bytes of four names.
+fn columns_from(c: usize) -> u64
+    requires { ⌜ c ≤ largest ⌝ }
+    ensures { λ r. ⌜ r ≡ pairs (λ j. c + suc j) (λ j. 0) ⌝ }
 {
-    let mut bad = false;
-    let mut place = at;
-    let mut c = 1usize;
-    while c <= n {
-        bad = bad_name(n, limit, c, wide(image[place]), wide(image[place + 1])) | bad;
-        place += 2;
-        c += 1;
+    FIRST_COLUMNS + four_times(c as u64)
+}
+
+// Bits where some of four names in a word is bad by itself, a partner byte and a label byte each; the first stands behind column c. A byte is
+// over its limit, a partner is its own column, or a label has no partner: sums and differences of bytes below 128 carry into no other.
+fn bad_four(w: u64, n: usize, c: usize) -> u64
+    requires { ⌜ (2 ≤ n) × (n ≤ largest) × (c ≤ largest) ⌝ }
+    ensures { λ r. ⌜ not (eqb r 0) ≡ some 4 (λ j. badName n (labelLimit n) (c + j) (lane 8 w (j * 2 - 2)) (lane 8 w (j * 2 - 1))) ⌝ }
+{
+    let low = w & SEVENS;
+    let over = w | (low + limits_of(n));
+    let own = EIGHTHS - (low ^ columns_from(c));
+    let bare = ((low + SEVENS) >> 8) & (EIGHTHS - low);
+    (over & EIGHTHS) | ((own | bare) & PARTNER_EIGHTHS)
+}
+
+// Bits where some name of the row that starts at a place is bad by itself; behind the row stand at least the yields and the marks.
+fn bad_in_row(image: &[u8], n: usize, at: usize) -> u64
+    requires { ⌜ (2 ≤ n) × (n ≤ largest) × (at + n * 5 ≤ length (now image)) ⌝ }
+    ensures { λ r.
+        ⌜ not (eqb r 0)
+        ≡ some n
+        (λ c. badName n (labelLimit n) c (getD (now (image .entry)) (at + (c - 1) * 2) 0) (getD (now (image .entry)) (at + (c - 1) * 2 + 1) 0)) ⌝ }
+{
+    let first = bad_four(eight(image, at) & first_lanes(n), n, 0);
+    if n <= 4 {
+        return first;
     }
-    bad
+    bad_four(eight(image, at + 8) & first_lanes(n - 4), n, 4) | first
 }
 
 // The row that starts at a place has a name.
@@ -60,61 +84,76 @@ fn some_in_row(image: &[u8], n: usize, at: usize) -> bool
     found
 }
 
-// The row of stall r is bad: a name of it by itself, its own stall's name, or as the row of a stall never heard.
-fn bad_row(
-    image: &[u8],
-    n: usize,
-    limit: usize,
-    own: usize,
-    r: usize,
-    at: usize,
-    ownrow: usize,
-    yields: usize,
-) -> bool
-    requires { ⌜ RowAt (now image) n own r at ownrow yields × (limit ≡ labelLimit n) ⌝ }
-    ensures { λ b. ⌜ b ≡ badRow (now (image .entry)) n own r ⌝ }
+// The two bytes at a place as a word.
+fn two_at(image: &[u8], at: usize) -> u64
+    requires { ⌜ at + 1 < length (now image) ⌝ }
+    ensures { λ r. ⌜ r ≡ word (now (image .entry)) at ⌝ }
 {
-    let shift = (r - 1) * 2;
-    let here = at + shift;
-    let there = ownrow + shift;
-    let differs = !((image[here] == image[there]) & (image[here + 1] == image[there + 1]));
-    let heard = !(image[there] == 0);
-    let bad = bad_in_row(image, n, limit, at) | differs;
-    if heard {
-        return bad;
-    }
-    let filled = some_in_row(image, n, at) | !is_not_milked(word_at(image, yields));
-    bad | filled
+    word_at(image, at) as u64
 }
 
-// Some row is bad.
-fn bad_rows(image: &[u8], n: usize, limit: usize, own: usize, ownrow: usize) -> bool
-    requires { ⌜ Framed (now image) n own × (limit ≡ labelLimit n) × (ownrow ≡ rowPlace n own) ⌝ }
-    ensures { λ b. ⌜ b ≡ badNames (now (image .entry)) n own ⌝ }
+// Some row has a name that is bad by itself, or not the own row's name of its stall.
+fn bad_rows(image: &[u8], n: usize, own: usize, ownrow: usize) -> bool
+    requires { ⌜ Framed (now image) n own × (ownrow ≡ rowPlace n own) ⌝ }
+    ensures { λ b. ⌜ b ≡ some n (λ r. some n (λ c. badName n (labelLimit n) c (partnerAt (now (image .entry)) n r c) (labelAt (now (image .entry)) n r c)) || badDiagonal (now (image .entry)) n own r) ⌝ }
+{
+    let mut bad = 0u64;
+    let mut at = 4usize;
+    let mut here = 4usize;
+    let mut there = ownrow;
+    let mut r = 1usize;
+    while r <= n {
+        bad = bad_in_row(image, n, at) | (two_at(image, here) ^ two_at(image, there)) | bad;
+        at += n + n;
+        here += n + n + 2;
+        there += 2;
+        r += 1;
+    }
+    !(bad == 0)
+}
+
+// No partner stands at a place, and a row has a name, or a yield is one.
+fn bad_unheard(image: &[u8], n: usize, there: usize, at: usize, yields: usize) -> bool
+    requires { ⌜ (there < length (now image)) × (at + n * 2 ≤ length (now image)) × (yields + 1 < length (now image)) ⌝ }
+    ensures { λ b.
+        ⌜ b
+        ≡ (eqb (getD (now (image .entry)) there 0) 0
+        && (some n (λ c. not (eqb (getD (now (image .entry)) (at + (c - 1) * 2) 0) 0)) || not (eqb (word (now (image .entry)) yields) noYield))) ⌝ }
+{
+    if !(image[there] == 0) {
+        return false;
+    }
+    some_in_row(image, n, at) | !is_not_milked(word_at(image, yields))
+}
+
+// Some row of a stall never heard is bad.
+fn bad_unheards(image: &[u8], n: usize, own: usize, ownrow: usize) -> bool
+    requires { ⌜ Framed (now image) n own × (ownrow ≡ rowPlace n own) ⌝ }
+    ensures { λ b. ⌜ b ≡ some n (badUnheard (now (image .entry)) n own) ⌝ }
 {
     let mut bad = false;
     let mut at = 4usize;
     let mut yields = yields_place(image.len(), n);
+    let mut there = ownrow;
     let mut r = 1usize;
     while r <= n {
-        bad = bad_row(image, n, limit, own, r, at, ownrow, yields) | bad;
+        bad = bad_unheard(image, n, there, at, yields) | bad;
         at += n + n;
         yields += 2;
+        there += 2;
         r += 1;
     }
     bad
 }
 
-// Check 5.
-pub(crate) fn bad_names(image: &[u8], n: u8, own: u8) -> bool
-    requires { ⌜ Framed (now image) n own ⌝ }
+// Check 5, by whether all stalls are heard.
+pub(crate) fn bad_names(image: &[u8], n: usize, own: usize, ownrow: usize, all: bool) -> bool
+    requires { ⌜ Framed (now image) n own × (ownrow ≡ rowPlace n own) × (all ≡ not (some n (λ r. not (heardAt (now image) n own r)))) ⌝ }
     ensures { λ b. ⌜ b ≡ badNames (now (image .entry)) n own ⌝ }
 {
-    bad_rows(
-        image,
-        wide(n),
-        Head::label_limit(n),
-        wide(own),
-        row_place(n, own),
-    )
+    let bad = bad_rows(image, n, own, ownrow);
+    if all {
+        return bad;
+    }
+    bad | bad_unheards(image, n, own, ownrow)
 }

@@ -1,11 +1,16 @@
 // Order entries of an image, read and written at their places: only here does the code know how many bytes an entry has.
 ghost use mathlib.Core.Path.{_≡_};
-ghost use Prim.Native.Nat.{_%_, _^_, _<_};
+ghost use Prim.Native.Nat.{suc, _%_, _^_, _<_};
+ghost use mathlib.Core.Bool.{cond};
+ghost use lib.Dec.{ltb};
 ghost use lib.Seq.{sets};
-ghost use Rattle.image.specs.Layout.{largest, orderFrom, orderWidth, ordersFrom};
+ghost use Rattle.image.specs.Lanes.{lanes};
+ghost use Rattle.image.specs.Layout.{largest, orderAt, orderFrom, orderWidth, ordersFrom};
 ghost use Rattle.image.specs.Encode.{orderBytes};
+ghost use Rattle.image.specs.Frame.{Sized};
 use crate::bytes::less;
 use crate::marks::widen;
+use crate::words::eight;
 
 // The bytes of an order entry in an image of n stalls.
 pub fn order_width(n: usize) -> usize
@@ -29,6 +34,14 @@ pub fn order_at(image: &[u8], n: usize, at: usize) -> u64
         return 0;
     }
     widen(image[at])
+}
+
+// The order entries of all stalls, a byte each.
+pub(crate) fn order_bytes(image: &[u8], n: usize) -> u64
+    requires { ⌜ Sized (now image) n ⌝ }
+    ensures { λ r. ⌜ r ≡ lanes 8 8 (λ i. cond (ltb i n) (orderAt (now (image .entry)) n (suc i)) 0) ⌝ }
+{
+    eight(image, image.len() - 8) >> (8 * (8 - n))
 }
 
 // An order entry written at a place, as far as it has room there and in its bytes.

@@ -6,15 +6,20 @@ ghost use mathlib.Core.List.{_++_};
 ghost use lib.Dec.{eqb};
 ghost use lib.ListN.{length, take, drop};
 ghost use Rattle.image.specs.Stalls.{some, each};
-ghost use Rattle.image.specs.Layout.{isYield, longest, noYield, word};
+ghost use Rattle.image.specs.Lanes.{lane};
+ghost use Rattle.image.specs.Layout.{isYield, largest, longest, noYield, word};
 ghost use Rattle.image.specs.Encode.{wordBytes};
-ghost use Rattle.image.specs.Frame.{Framed};
+ghost use Rattle.image.specs.Frame.{Sized};
 ghost use Rattle.image.specs.Check.{badYields};
 use crate::Head;
 use crate::LONGEST;
-use crate::bytes::wide;
 use crate::bytes::word_at;
-use crate::bytes::yields_place;
+use crate::orders::orders_place;
+use crate::words::FIFTEENS;
+use crate::words::FOUR_ONES;
+use crate::words::SIXTEENTHS;
+use crate::words::first_lanes;
+use crate::words::four_numbers;
 
 // The number for not milked.
 pub(crate) fn is_not_milked(x: usize) -> bool
@@ -30,29 +35,40 @@ fn is_yield(x: usize) -> bool
     (x <= (Head::YIELD_LIMIT as usize)) | is_not_milked(x)
 }
 
-// Some of n numbers in a row is none that a yield may be.
-fn some_bad_yield(image: &[u8], n: usize, at: usize) -> bool
-    requires { ⌜ at + n * 2 ≤ length (now image) ⌝ }
-    ensures { λ r. ⌜ r ≡ some n (λ s. not (isYield (word (now (image .entry)) (at + (s - 1) * 2)))) ⌝ }
+// What takes the lower fifteen bits of a number to the sixteenth where they are over the limit; and, where that is set already, where the
+// number is the one for not milked.
+const OVER: u64 = (0x7fff - Head::YIELD_LIMIT as u64) * FOUR_ONES;
+
+const NONE: u64 = (0x10000 - Head::NO_YIELD as u64) * FOUR_ONES;
+
+// Of four numbers in the lanes of a word, some is none that a yield may be.
+fn bad_four(w: u64) -> bool
+    ensures { λ r. ⌜ r ≡ some 4 (λ j. not (isYield (lane 16 w (j - 1)))) ⌝ }
 {
-    let mut bad = false;
-    let mut place = at;
-    let mut s = 1usize;
-    while s <= n {
-        bad = !is_yield(word_at(image, place)) | bad;
-        place += 2;
-        s += 1;
+    let low = w & FIFTEENS;
+    let over = (w | (low + OVER)) & SIXTEENTHS;
+    let none = (w & (low + NONE)) & SIXTEENTHS;
+    !(over == none)
+}
+
+// Some of n numbers that end at a place is none that a yield may be: of the last four, or of the first four where there are more.
+fn some_bad_yield(image: &[u8], n: usize, end: usize) -> bool
+    requires { ⌜ (2 ≤ n) × (n ≤ largest) × (n * 2 ≤ end) × (8 ≤ end) × (end ≤ length (now image)) ⌝ }
+    ensures { λ r. ⌜ r ≡ some n (λ s. not (isYield (word (now (image .entry)) (end - n * 2 + (s - 1) * 2)))) ⌝ }
+{
+    let last = bad_four(four_numbers(image, end - 8) & first_lanes(n));
+    if n <= 4 {
+        return last;
     }
-    bad
+    bad_four(four_numbers(image, end - n - n)) | last
 }
 
 // Check 4.
-pub(crate) fn bad_yields(image: &[u8], n: u8, own: u8) -> bool
-    requires { ⌜ Framed (now image) n own ⌝ }
+pub(crate) fn bad_yields(image: &[u8], n: usize) -> bool
+    requires { ⌜ Sized (now image) n ⌝ }
     ensures { λ b. ⌜ b ≡ badYields (now (image .entry)) n ⌝ }
 {
-    let m = wide(n);
-    !is_yield(word_at(image, 2)) | some_bad_yield(image, m, yields_place(image.len(), m))
+    !is_yield(word_at(image, 2)) | some_bad_yield(image, n, orders_place(image.len(), n))
 }
 
 // A table in which so many yields from a place on are those of heads that were not milked.

@@ -1,6 +1,6 @@
 -- The table of lengths follows its rule, by one test of the whole table.
 use Prim.Native.Nat.{ℕ, suc, _<_}
-use mathlib.Core.Path.{_≡_, refl, sym}
+use mathlib.Core.Path.{_≡_, refl, sym, _∙_}
 use mathlib.Core.List.{List, [], _∷_}
 use native.Mathlib.Omega.{arith}
 use borrow.Author.Tests.{le-leb, lt-leb}
@@ -22,17 +22,11 @@ rule = table-rule (suc largest) (λ k. getD lengths k 0) lengthOf refl
 beyond : (n : ℕ) → largest < n → lengthOf n ≡ 0
 beyond n l = rw (le-leb 2 n (omega arith), lt-leb n largest l)
 
-returns : tie.Need-returns
-returns c = rule (c .before .args .n) (search needs)
-
-returns-2 : tie.Need-returns-2
-returns-2 c = sym (beyond (c .before .args .n) (search needs))
-
-mul-result : tie.Need-mul-result
-mul-result c = search needs
-
-array-read-result : tie.Need-array-read-result
-array-read-result c = search needs
-
 pub length-of-spec : {M : Type 1} → statement M
-length-of-spec = tie.close (tie.spec mul-result array-read-result returns returns-2)
+length-of-spec =
+    tie.close
+    (tie.spec
+    (λ c. search needs)
+    (λ c κs. tt)
+    (λ c. c .wide .ensures .0 ∙ rule (c .before .before .args .n) (search needs))
+    (λ c. sym (beyond (c .before .args .n) (search needs))))

@@ -1,30 +1,33 @@
--- Some of n numbers in a row is none that a yield may be.
-use Prim.Native.Nat.{_+_, _-_, _*_}
-use mathlib.Core.Path.{ap, _∙_}
-use mathlib.Core.Bool.{not}
+-- Some of n numbers is none that a yield may be: of the last four, or of the first four where there are more.
+use Prim.Native.Nat.{ℕ, _<_}
 use native.Mathlib.Omega.{arith}
-use Rattle.image.specs.Layout.{word, isYield}
-use Rattle.image.proofs.Search.{Looked, looked-start, looked-next, looked-end}
+use borrow.Author.Needs.{needs}
+use lib.ListN.{getD}
+use Rattle.image.proofs.YieldLanes.{last-found, both-found}
 use Rattle.image.proofs.yields.some_bad_yield.Statement.{statement}
 use Rattle.image.proofs.yields.some_bad_yield.Tie as tie
-
-abbrev Inv-loop : tie.InvT-loop
-Inv-loop image n at bad₀ place₀ s₀ bad place s = Looked n 2 at place s bad (λ s. not (isYield (word image (at + (s - 1) * 2))))
-
-abbrev μ-loop : tie.MeasureT-loop
-μ-loop image n at bad₀ place₀ s₀ bad place s = n + 1 - s
 
 pub some-bad-yield-spec : {M : Type 1} → statement M
 some-bad-yield-spec =
     tie.close
     (tie.spec
-    Inv-loop
-    μ-loop
-    (λ c. looked-start _)
-    (λ c κs. omega arith)
-    (λ c κs. tt)
-    (λ c. omega arith)
-    (λ c. omega arith)
-    (λ c. omega arith)
-    (λ c. looked-next (c .before .before .before .loop .inv) (c .before .before .loop-test .taken) (not (c .is-yield .result)) (ap not (c .is-yield .ensures ∙ ap isYield (c .before .word-at .ensures ∙ cc))))
-    (λ c. looked-end (c .before .loop .inv) (c .loop-test .left)))
+    (λ c. search needs)
+    (λ c κs. search needs)
+    (λ c κs. search needs)
+    (λ c κs. search needs)
+    (λ c.
+    let t = c .before .before .before .before .before .args in
+    let s = t .image .now in
+    let bytes : (k : ℕ) → getD s k 0 < 256 = λ k. omega (arith, c .before .before .before .before .shared-slice-known .given k) in
+    last-found s bytes (t .n) (t .end) (omega arith) (t .n) (omega arith) (c .before .before .before .four-numbers .ensures) (c .before .before .first-lanes .ensures) (c .before .bad-four .ensures))
+    (λ c. search needs)
+    (λ c. search needs)
+    (λ c κs. search needs)
+    (λ c κs. search needs)
+    (λ c.
+    let l = c .before .before .before in
+    let t = l .before .before .before .before .args in
+    let s = t .image .now in
+    let bytes : (k : ℕ) → getD s k 0 < 256 = λ k. omega (arith, l .before .before .before .shared-slice-known .given k) in
+    both-found s bytes (t .n) (t .end) (omega arith) (omega arith) (omega arith) (omega arith) (c .before .four-numbers2 .ensures) (c .bad-four2 .ensures)
+    (last-found s bytes (t .n) (t .end) (omega arith) 4 (omega arith) (l .before .before .four-numbers .ensures) (l .before .first-lanes .ensures) (l .bad-four .ensures))))
