@@ -1,6 +1,10 @@
 /* Times the check, what is settled and the meeting of wilbryn.h against the plain and the expert
    version on the same images, then those on packed images against the plain version and against
-   wilbryn.h's own on the unpacked ones; and measures the stack that they touch. */
+   wilbryn.h's own on the unpacked ones; and measures the stack that they touch. What writes is timed
+   on copies, the check on images where they lie, as at a start-up. Then it times a start-up: the
+   check of 10,000 stored images of 8 heads, plain and packed. Where the checks of an earlier landing
+   are linked in as before_check and before_packed_check, the checks are timed against these too, in
+   the same rounds. */
 #define _XOPEN_SOURCE 700
 #include "wilbryn.h"
 
@@ -12,16 +16,18 @@
 
 extern __typeof__(wilbryn_fresh) plain_fresh;
 extern __typeof__(wilbryn_milking) plain_milking;
+extern __typeof__(wilbryn_heard) plain_heard;
 extern __typeof__(wilbryn_pack) plain_pack;
 extern __typeof__(wilbryn_unpack) plain_unpack;
 extern __typeof__(wilbryn_check) plain_check, expert_check, plain_packed_check;
 extern __typeof__(wilbryn_settled) plain_settled, expert_settled, plain_packed_settled;
 extern __typeof__(wilbryn_meeting) plain_meeting, expert_meeting, plain_packed_meeting;
 
-enum form { UNPACKED, PACKED, FORMS };
+/* Null where no earlier landing is linked in. */
+extern __typeof__(wilbryn_check) before_check __attribute__((weak));
+extern __typeof__(wilbryn_check) before_packed_check __attribute__((weak));
 
-/* The last of three versions is measured against the two others. */
-enum { LAST = 2, VERSIONS };
+enum form { UNPACKED, PACKED, FORMS };
 
 struct version {
     const char *name;
@@ -31,20 +37,31 @@ struct version {
     __typeof__(wilbryn_meeting) *meeting;
 };
 
-static const struct version on_images[VERSIONS] = {
-    {"plain", UNPACKED, plain_check, plain_settled, plain_meeting},
-    {"expert", UNPACKED, expert_check, expert_settled, expert_meeting},
-    {"wilbryn", UNPACKED, wilbryn_check, wilbryn_settled, wilbryn_meeting},
-};
+static const struct version
+    plain = {"plain", UNPACKED, plain_check, plain_settled, plain_meeting},
+    expert = {"expert", UNPACKED, expert_check, expert_settled, expert_meeting},
+    before = {"before", UNPACKED, before_check, NULL, NULL},
+    wilbryn = {"wilbryn", UNPACKED, wilbryn_check, wilbryn_settled, wilbryn_meeting},
+    plain_packed = {"plain", PACKED, plain_packed_check, plain_packed_settled,
+                    plain_packed_meeting},
+    before_packed = {"before", PACKED, before_packed_check, NULL, NULL},
+    wilbryn_packed = {"packed", PACKED, wilbryn_packed_check, wilbryn_packed_settled,
+                      wilbryn_packed_meeting};
 
-static const struct version on_packed[VERSIONS] = {
-    {"plain", PACKED, plain_packed_check, plain_packed_settled, plain_packed_meeting},
-    {"wilbryn", UNPACKED, wilbryn_check, wilbryn_settled, wilbryn_meeting},
-    {"packed", PACKED, wilbryn_packed_check, wilbryn_packed_settled, wilbryn_packed_meeting},
-};
+/* Of the versions that are compared, the last is measured against the others. */
+enum { VERSIONS = 4 };
+
+typedef const struct version *const compared[VERSIONS + 1];
+
+static compared on_images = {&plain, &expert, &wilbryn};
+static compared on_packed = {&plain_packed, &wilbryn, &wilbryn_packed};
+static compared since_before = {&before, &wilbryn};
+static compared since_before_packed = {&before_packed, &wilbryn_packed};
+static compared at_start = {&before, &plain, &expert, &wilbryn};
+static compared at_start_packed = {&before_packed, &plain_packed, &wilbryn_packed};
 
 enum { PAIRS = 256, REPEATS = 8, WARM_UP = 4, ROUNDS = 61, STACK = 1 << 17 };
-enum { MOST = 8, LONGEST = WILBRYN_IMAGE_LENGTH(MOST) };
+enum { MOST = 8, LONGEST = WILBRYN_IMAGE_LENGTH(MOST), STORED = 10000 };
 
 static uint64_t seed = 0x5eed0008;
 
@@ -61,11 +78,16 @@ static struct lent {
     uint8_t first[LONGEST], second[LONGEST], output[MOST];
 } pairs_of[FORMS][MOST + 1][PAIRS], work;
 
-/* The N at work and its lengths; the versions compared, and the one at work with its length and its
-   pairs. */
+/* Images of the most heads, one behind the other. */
+static uint8_t stored[FORMS][STORED * LONGEST];
+
+/* The N at work and its lengths; the versions compared and the number of the last, and the one at
+   work with its length and its pairs; and the image that is checked. */
 static size_t n, lens[FORMS], len;
-static const struct version *versions, *version;
+static const struct version *const *versions, *version;
+static int last;
 static const struct lent *pairs;
+static const uint8_t *image;
 
 static void work_on(size_t size) {
     n = size;
@@ -73,35 +95,73 @@ static void work_on(size_t size) {
     lens[PACKED] = WILBRYN_PACKED_LENGTH(n);
 }
 
+/* All of these; without the first, where that is of an earlier landing and none is there. */
+static void compare_these(compared these) {
+    versions = these[0]->check == NULL ? these + 1 : these;
+    for (last = 0; versions[last + 1] != NULL;) last++;
+}
+
 static void work_with(int v) {
-    version = &versions[v];
+    version = versions[v];
     len = lens[version->form];
     pairs = pairs_of[version->form][n];
+}
+
+static void make_fresh(uint8_t images[MOST][LONGEST]) {
+    for (uint8_t r = 0; r < n; r++) plain_fresh(images[r], lens[UNPACKED], (uint8_t)n, r + 1);
+}
+
+/* A milking, then a meeting of two heads, which are kept as they are before it. */
+static void milk_and_meet(uint8_t images[MOST][LONGEST], struct lent *pair) {
+    size_t len = lens[UNPACKED];
+    unsigned a = below((unsigned)n), b = (a + 1 + below((unsigned)n - 1)) % (unsigned)n;
+    plain_milking(images[below((unsigned)n)], len, (uint16_t)below(1000));
+    memcpy(pair->first, images[a], len);
+    memcpy(pair->second, images[b], len);
+    plain_meeting(images[a], len, images[b], len, pair->output, n);
 }
 
 /* Each pair comes from a list of its own, of 20 to 200 meetings with milkings between. */
 static void make_pair(struct lent *pair, struct lent *packed) {
     uint8_t images[MOST][LONGEST];
-    size_t len = lens[UNPACKED], packed_len = lens[PACKED];
-    for (uint8_t r = 0; r < n; r++) plain_fresh(images[r], len, (uint8_t)n, r + 1);
-    for (unsigned left = 20 + below(181); left > 0; left--) {
-        unsigned a = below((unsigned)n), b = (a + 1 + below((unsigned)n - 1)) % (unsigned)n;
-        plain_milking(images[below((unsigned)n)], len, (uint16_t)below(1000));
-        memcpy(pair->first, images[a], len);
-        memcpy(pair->second, images[b], len);
-        plain_meeting(images[a], len, images[b], len, pair->output, n);
-    }
+    make_fresh(images);
+    for (unsigned left = 20 + below(181); left > 0; left--) milk_and_meet(images, pair);
     memset(pair->output, 0xee, sizeof pair->output);
     *packed = *pair;
-    plain_pack(pair->first, len, packed->first, packed_len);
-    plain_pack(pair->second, len, packed->second, packed_len);
+    plain_pack(pair->first, lens[UNPACKED], packed->first, lens[PACKED]);
+    plain_pack(pair->second, lens[UNPACKED], packed->second, lens[PACKED]);
 }
 
-/* A call on what lies in work, or nothing (the copying alone). */
+static uint8_t *place(enum form form, int i) { return stored[form] + (size_t)i * lens[form]; }
+
+/* The image becomes number i of those that are stored, unless it is one of them. */
+static int store(const uint8_t *image, int i) {
+    for (int j = 0; j < i; j++) {
+        if (memcmp(place(UNPACKED, j), image, lens[UNPACKED]) == 0) return i;
+    }
+    memcpy(place(UNPACKED, i), image, lens[UNPACKED]);
+    plain_pack(image, lens[UNPACKED], place(PACKED, i), lens[PACKED]);
+    return i + 1;
+}
+
+/* All heads of parlours after lists of 0 to 199 meetings, as far as they differ. */
+static void make_stored(void) {
+    uint8_t images[MOST][LONGEST];
+    struct lent pair;
+    work_on(MOST);
+    for (int count = 0, meetings = 0; count < STORED; meetings = (meetings + 1) % 200) {
+        make_fresh(images);
+        for (int left = meetings; left > 0; left--) milk_and_meet(images, &pair);
+        for (size_t r = 0; r < n && count < STORED; r++) count = store(images[r], count);
+    }
+}
+
+/* A call on what lies in work, or nothing (what is done between the calls). The check writes
+   nothing, so it is one of an image wherever that lies. */
 typedef uint32_t call(void);
 
 static uint32_t nothing(void) { return 0; }
-static uint32_t check(void) { return version->check(work.first, len); }
+static uint32_t check(void) { return version->check(image, len); }
 static uint32_t settled(void) { return version->settled(work.first, len, work.output, n); }
 static uint32_t meeting(void) {
     return version->meeting(work.first, len, work.second, len, work.output, n);
@@ -111,25 +171,54 @@ static void lay_out(const struct lent *pair) {
     memcpy(work.first, pair->first, len);
     memcpy(work.second, pair->second, len);
     memcpy(work.output, pair->output, sizeof work.output);
+    image = work.first;
 }
 
-/* Nanoseconds a call, over all pairs. */
-static double time_of(call *volatile call) {
-    static volatile uint32_t sink;
-    struct timespec start, stop;
+/* What is timed: calls, and the sum of their answers. */
+typedef uint32_t run(call *volatile call);
+
+static uint32_t run_pairs(call *volatile call) {
     uint32_t sum = 0;
-    clock_gettime(CLOCK_MONOTONIC, &start);
     for (int repeat = 0; repeat < REPEATS; repeat++) {
         for (int i = 0; i < PAIRS; i++) {
             lay_out(&pairs[i]);
             sum += call();
         }
     }
+    return sum;
+}
+
+/* The first of each pair, where it lies. */
+static uint32_t run_in_place(call *volatile call) {
+    uint32_t sum = 0;
+    for (int repeat = 0; repeat < REPEATS; repeat++) {
+        for (int i = 0; i < PAIRS; i++) {
+            image = pairs[i].first;
+            sum += call();
+        }
+    }
+    return sum;
+}
+
+/* Each stored image once, where it lies. */
+static uint32_t run_stored(call *volatile call) {
+    uint32_t sum = 0;
+    for (int i = 0; i < STORED; i++) {
+        image = place(version->form, i);
+        sum += call();
+    }
+    return sum;
+}
+
+/* In nanoseconds. */
+static double time_of(run *run, call *call) {
+    static volatile uint32_t sink;
+    struct timespec start, stop;
+    clock_gettime(CLOCK_MONOTONIC, &start);
+    sink = run(call);
     clock_gettime(CLOCK_MONOTONIC, &stop);
-    sink = sum;
     (void)sink;
-    double ns = (double)(stop.tv_sec - start.tv_sec) * 1e9 + (double)(stop.tv_nsec - start.tv_nsec);
-    return ns / (REPEATS * PAIRS);
+    return (double)(stop.tv_sec - start.tv_sec) * 1e9 + (double)(stop.tv_nsec - start.tv_nsec);
 }
 
 static int by_size(const void *a, const void *b) {
@@ -201,14 +290,14 @@ static void expect_same(call *call) {
     for (int i = 0; i < PAIRS; i++) {
         uint32_t answers[VERSIONS];
         struct lent after[VERSIONS];
-        for (int v = 0; v < VERSIONS; v++) {
+        for (int v = 0; v <= last; v++) {
             work_with(v);
             memset(&work, 0, sizeof work);
             lay_out(&pairs[i]);
             answers[v] = call();
             after[v] = unpacked();
             if (answers[v] != answers[0] || memcmp(&after[v], &after[0], sizeof work) != 0) {
-                printf("N = %zu: %s and %s differ\n", n, versions[0].name, version->name);
+                printf("N = %zu: %s and %s differ\n", n, versions[0]->name, version->name);
                 exit(1);
             }
         }
@@ -217,39 +306,43 @@ static void expect_same(call *call) {
 
 /* The times of one N, round by round. */
 static struct times {
-    double copying[VERSIONS][ROUNDS], of[VERSIONS][ROUNDS];
+    double between[VERSIONS][ROUNDS], of[VERSIONS][ROUNDS];
 } times_of[MOST + 1];
 
 /* The versions take turns at coming first. */
-static void time_round(struct times *times, int round, call *call) {
-    for (int turn = 0; turn < VERSIONS; turn++) {
-        int v = (round + turn) % VERSIONS;
+static void time_round(struct times *times, int round, run *run, call *call) {
+    for (int turn = 0; turn <= last; turn++) {
+        int v = (round + turn) % (last + 1);
         work_with(v);
-        times->copying[v][round] = time_of(nothing);
-        times->of[v][round] = time_of(call);
+        times->between[v][round] = time_of(run, nothing);
+        times->of[v][round] = time_of(run, call);
     }
 }
 
-/* Rounds go through all N, so that a slow spell of the machine meets all alike. */
-static void time_all(call *call) {
+/* Rounds go through all N from the least, so that a slow spell of the machine meets all alike. */
+static void time_all(size_t least, run *run, call *call) {
     for (int round = -WARM_UP; round < ROUNDS; round++) {
-        for (size_t size = 2; size <= MOST; size++) {
+        for (size_t size = least; size <= MOST; size++) {
             work_on(size);
-            time_round(&times_of[size], round < 0 ? 0 : round, call);
+            time_round(&times_of[size], round < 0 ? 0 : round, run, call);
         }
     }
 }
 
-static double median(size_t size, int v) {
-    return quantile(times_of[size].of[v], 0.5) - quantile(times_of[size].copying[v], 0.5);
+/* The time below which this part of the rounds lies. */
+static double time_at(size_t size, int v, double part) {
+    return quantile(times_of[size].of[v], part) - quantile(times_of[size].between[v], 0.5);
 }
+
+/* A call's. */
+static double median(size_t size, int v) { return time_at(size, v, 0.5) / (REPEATS * PAIRS); }
 
 /* Of the last version to another, round by round. */
 static void print_ratio(const struct times *times, int other) {
-    double copying = quantile(times->copying[LAST], 0.5), ratios[ROUNDS];
-    double others_copying = quantile(times->copying[other], 0.5);
+    double between = quantile(times->between[last], 0.5), ratios[ROUNDS];
+    double others_between = quantile(times->between[other], 0.5);
     for (int i = 0; i < ROUNDS; i++) {
-        ratios[i] = (times->of[LAST][i] - copying) / (times->of[other][i] - others_copying);
+        ratios[i] = (times->of[last][i] - between) / (times->of[other][i] - others_between);
     }
     printf("%8.2f %6.2f to %5.2f", quantile(ratios, 0.5), quantile(ratios, 0.25),
            quantile(ratios, 0.75));
@@ -257,45 +350,90 @@ static void print_ratio(const struct times *times, int other) {
 
 static void print_row(call *call) {
     printf("%3zu", n);
-    for (int v = 0; v < VERSIONS; v++) printf("%8.1f", median(n, v));
-    for (int v = 0; v < LAST; v++) print_ratio(&times_of[n], v);
-    for (int v = 0; v < VERSIONS; v++) printf("%8.2f", median(n, v) / median(2, v));
-    for (int v = 0; v < VERSIONS; v++) {
+    for (int v = 0; v <= last; v++) printf("%8.1f", median(n, v));
+    for (int v = 0; v < last; v++) print_ratio(&times_of[n], v);
+    for (int v = 0; v <= last; v++) printf("%8.2f", median(n, v) / median(2, v));
+    for (int v = 0; v <= last; v++) {
         work_with(v);
         printf("%8zu", stack_of(call));
     }
     printf("\n");
 }
 
-/* The names of the versions as heads of three columns. */
-static void print_names(void) {
-    for (int v = 0; v < VERSIONS; v++) printf("%8s", versions[v].name);
+/* A head above a column for each version. */
+static void print_above(const char *what) {
+    int width = 8 * (last + 1), end = (width + (int)strlen(what)) / 2 + 2;
+    printf("%*s%*s", end, what, width - end, "");
 }
 
-static void print_heads(const char *what) {
-    printf("%s: medians of %d interleaved rounds, the copying of the images taken off\n", what,
-           ROUNDS);
-    printf("            ns a call      ");
-    for (int v = 0; v < LAST; v++) printf("%12s / %-9s", versions[LAST].name, versions[v].name);
-    printf("         times N = 2           bytes of stack\n  N");
+/* The names of the versions as heads of columns. */
+static void print_names(void) {
+    for (int v = 0; v <= last; v++) printf("%8s", versions[v]->name);
+}
+
+static void print_heads(const char *what, run *run) {
+    printf("%s: medians of %d interleaved rounds, %s taken off\n   ", what, ROUNDS,
+           run == run_pairs ? "the copying of the images" : "the loop");
+    print_above("ns a call");
+    for (int v = 0; v < last; v++) printf("%12s / %-9s", versions[last]->name, versions[v]->name);
+    print_above("times N = 2");
+    print_above("bytes of stack");
+    printf("\n  N");
     print_names();
-    printf("   ratio    quartiles       ratio    quartiles   ");
+    for (int v = 0; v < last; v++) printf("   ratio    quartiles   ");
     print_names();
     print_names();
     printf("\n");
 }
 
-static void compare(const char *what, const struct version *compared, call *call) {
-    versions = compared;
-    print_heads(what);
+static void compare(const char *what, compared these, run *run, call *call) {
+    compare_these(these);
+    print_heads(what, run);
     for (size_t size = 2; size <= MOST; size++) {
         work_on(size);
         expect_same(call);
     }
-    time_all(call);
+    time_all(2, run, call);
     for (size_t size = 2; size <= MOST; size++) {
         work_on(size);
         print_row(call);
+    }
+}
+
+/* How many stored images have heard of this many stalls. */
+static int count_stored(uint32_t heard) {
+    uint8_t records[3 * MOST];
+    int count = 0;
+    for (int i = 0; i < STORED; i++) {
+        count += plain_heard(place(UNPACKED, i), lens[UNPACKED], records, sizeof records) == heard;
+    }
+    return count;
+}
+
+/* A version that refuses an image does less than the others. */
+static void expect_accepted(void) {
+    for (int v = 0; v <= last; v++) {
+        work_with(v);
+        if (run_stored(check) != 0) {
+            printf("%s refuses a stored image\n", version->name);
+            exit(1);
+        }
+    }
+}
+
+static void start_up(const char *what, compared these) {
+    compare_these(these);
+    work_on(MOST);
+    expect_accepted();
+    time_all(MOST, run_stored, check);
+    printf("%s of %d accepted images of %d heads: %d interleaved rounds, the loop taken off\n",
+           what, STORED, MOST, ROUNDS);
+    printf("%22s%17s%15s / it  quartiles\n", "microseconds", "quartiles", versions[last]->name);
+    for (int v = 0; v <= last; v++) {
+        printf("%8s%14.1f%10.1f to %8.1f", versions[v]->name, time_at(n, v, 0.5) / 1e3,
+               time_at(n, v, 0.25) / 1e3, time_at(n, v, 0.75) / 1e3);
+        if (v < last) print_ratio(&times_of[n], v);
+        printf("\n");
     }
 }
 
@@ -306,11 +444,20 @@ int main(void) {
             make_pair(&pairs_of[UNPACKED][n][i], &pairs_of[PACKED][n][i]);
         }
     }
-    compare("check", on_images, check);
-    compare("settled", on_images, settled);
-    compare("meeting", on_images, meeting);
-    compare("packed check; wilbryn: that of the unpacked images", on_packed, check);
-    compare("packed settled; wilbryn: that of the unpacked images", on_packed, settled);
-    compare("packed meeting; wilbryn: that of the unpacked images", on_packed, meeting);
+    make_stored();
+    compare("check", on_images, run_in_place, check);
+    compare("settled", on_images, run_pairs, settled);
+    compare("meeting", on_images, run_pairs, meeting);
+    compare("packed check; wilbryn: that of the unpacked images", on_packed, run_in_place, check);
+    compare("packed settled; wilbryn: that of the unpacked images", on_packed, run_pairs, settled);
+    compare("packed meeting; wilbryn: that of the unpacked images", on_packed, run_pairs, meeting);
+    if (before_check != NULL) compare("check, since before", since_before, run_in_place, check);
+    if (before_packed_check != NULL) {
+        compare("packed check, since before", since_before_packed, run_in_place, check);
+    }
+    printf("start-up: of %d stored images, %d of heads that met none, %d of heads that heard all\n",
+           STORED, count_stored(0), count_stored(MOST));
+    start_up("check", at_start);
+    start_up("packed check", at_start_packed);
     return 0;
 }
