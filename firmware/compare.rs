@@ -113,6 +113,34 @@ fn require_labels(tried: &Tried) {
     }
 }
 
+/// Bytes at which a test of several bytes in one word could go wrong: about none, about the limits
+/// of partners, labels and yields, and about the eighth bit.
+fn edge_bytes(n: usize) -> [u8; 13] {
+    let [n, limit] = [n, label_limit(n)].map(|edge| edge as u8);
+    [0, 1, 3, n, n + 1, limit, limit + 1, 127, 128, 129, 0xe7, 0xe8, 255]
+}
+
+fn pairs_of(bytes: &[u8]) -> impl Iterator<Item = (u8, u8)> + '_ {
+    bytes.iter().flat_map(move |&first| bytes.iter().map(move |&second| (first, second)))
+}
+
+/// Accepted images of every size, so often, with each two such bytes side by side in each place: no
+/// byte may show in the judgement of its neighbour.
+fn neighbours(random: &mut Random, counts: &mut Counts, rounds: usize) {
+    for n in (2..=8).flat_map(|n| vec![n; rounds]) {
+        let stall = random.stall(n);
+        let image = images::accepted(random, n, stall).to_bytes();
+        for at in 2..image.len() - 1 {
+            for (first, second) in pairs_of(&edge_bytes(n)) {
+                let mut changed = image.clone();
+                changed[at] = first;
+                changed[at + 1] = second;
+                PLAIN.check(counts, &changed);
+            }
+        }
+    }
+}
+
 /// Every yield: milked, and in each place of an image whose head has heard of itself alone.
 fn all_yields(counts: &mut Counts) {
     let mut table = Table::fresh(2, 1);
@@ -135,6 +163,7 @@ fn main() {
     }
     edges(&mut random, &mut counts, share_of(50).max(1));
     let tried = labels(&mut random, &mut counts, share_of(50).max(1));
+    neighbours(&mut random, &mut counts, share_of(8).max(1));
     all_yields(&mut counts);
     counts.print();
     counts.require("fresh", 0..=3);
