@@ -61,7 +61,9 @@ extern "C" {
    order. */
 uint32_t wilbryn_fresh(uint8_t *image, size_t len, uint8_t n, uint8_t stall);
 
-/* Checks an image. Answers 0, or 1 to 6. */
+/* Checks an image. Answers 0, or 1 to 6. In the proved library this and the check of a packed image,
+   which a start-up runs on all that is stored, divide nowhere and multiply by written constants
+   alone. */
 uint32_t wilbryn_check(const uint8_t *image, size_t len);
 
 /* Replaces the current yield. Answers 0, or 1 to 6 for the image, then 4 for a new yield over 999,
