@@ -1,17 +1,18 @@
 -- Eight order entries in a word: the word's tests find a bad one exactly where there is one.
-use Prim.Native.Nat.{ℕ, zero, suc, _+_, _-_, _*_, _/_, _%_, _^_, _≤_, _<_}
+use Prim.Native.Nat.{ℕ, suc, _+_, _-_, _*_, _/_, _%_, _^_, _≤_, _<_}
 use mathlib.Core.Path.{_≡_, refl, sym, ap, ap₂, _∙_}
 use mathlib.Core.Bool.{Bool, true, false, _&&_, _||_, not, cond, Bool·not-not}
 use native.Mathlib.Omega.{arith}
 use native.Mathlib.Nat.{mod-eq-of-lt}
-use borrow.Author.Tests.{eq-eqb, ne-eqb, le-leb}
+use borrow.Author.Tests.{eq-eqb, ne-eqb}
 use lib.Bits.{bitAnd, and-mask, and-comm, and-zero-r, and-zero-l, and-le-l, and-le-r}
 use lib.Dec.{eqb}
 use lib.Pow.{pow-pos, pow-mono, shl-exact}
-use Rattle.image.specs.Stalls.{some, has, bits}
+use Rattle.image.specs.Stalls.{some, has}
 use Rattle.image.specs.Lanes.{lanes, lane}
 use Rattle.image.proofs.Search.{some-agree, some-or}
 use Rattle.image.proofs.Bits.{bit-left, bit-test, has-top}
+use Rattle.image.proofs.NameLanes.{some-test}
 use Rattle.image.proofs.Lanes.{Fits, lanes-agree, lanes-lt, lanes-times, lanes-of, lane-of, same-lane, sevens-lane, eighths-lane, lane-and, lane-add, sum-lt, lane-same}
 
 -- Words with a bit in each byte
@@ -57,8 +58,7 @@ module _ (sets : ℕ) (sets-in : sets < 2 ^ 64) where
 
   -- a number and 127 have the eighth bit exactly where the number is not 0
   carry : (x : ℕ) → x ≤ 128 → has (x + 127) 8 ≡ not (eqb x 0)
-  carry zero l = has-top 7 127 (omega arith)
-  carry (suc x) l = has-top 7 (suc x + 127) (omega arith) ∙ le-leb 128 (suc x + 127) (omega arith) ∙ sym (ap not (ne-eqb (suc x) 0 (λ e. omega arith)))
+  carry x l = has-top 7 (x + 127) (omega arith) ∙ some-test x
 
   abbrev flags : ℕ
   flags = bitAnd (own-bits + 0x7f7f7f7f7f7f7f7f) 0x8080808080808080

@@ -23,7 +23,7 @@ over-test x m l = elim (decLt m x) [
   | no a ↦ lt-leb 128 (x + (127 - m)) (omega arith) ∙ sym (le-ltb m x (omega arith))
 ]
 
-some-test : (x : ℕ) → leb 128 (x + 127) ≡ not (eqb x 0)
+pub some-test : (x : ℕ) → leb 128 (x + 127) ≡ not (eqb x 0)
 some-test zero = refl
 some-test (suc x) = le-leb 128 (suc x + 127) (omega arith) ∙ sym (ap not (ne-eqb (suc x) 0 (λ e. omega arith)))
 
