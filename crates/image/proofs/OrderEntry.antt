@@ -1,4 +1,5 @@
--- An order entry: how many bytes it has, what they say, and where it stands. All that depends on its width is here, and in src/orders.rt and its proofs.
+-- An order entry: how many bytes it has, what they say, and where it stands. All that depends on its width is here, in src/orders.rt and its proofs,
+-- and where the check has all entries in a word, src/marks.rt and MarkLanes.antt.
 use Prim.Native.Nat.{ℕ, suc, _+_, _-_, _*_, _/_, _%_, _^_, _≤_, _<_}
 use mathlib.Core.Path.{_≡_, refl, sym, ap, _∙_}
 use mathlib.Core.Bool.{cond}

@@ -1,4 +1,4 @@
-// Order entries of an image, read and written at their places: only here does the code know how many bytes an entry has.
+// Order entries of an image, read and written at their places: only here, and in check 6, does the code know how many bytes an entry has.
 ghost use mathlib.Core.Path.{_≡_};
 ghost use Prim.Native.Nat.{suc, _%_, _^_, _<_};
 ghost use mathlib.Core.Bool.{cond};
