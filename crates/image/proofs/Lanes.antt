@@ -1,7 +1,7 @@
 -- Laws of lanes: what sums, `&`, `|`, `^`, tests for 0 and for equality do to each lane by itself.
 use Prim.Native.Nat.{ℕ, zero, suc, _+_, _-_, _*_, _/_, _%_, _^_, _≤_, _<_}
 use mathlib.Core.Path.{_≡_, refl, sym, ap, ap₂, subst, _∙_}
-use mathlib.Core.Bool.{Bool, true, false, _||_, not, cond, or-assoc, or-comm, true≢false}
+use mathlib.Core.Bool.{Bool, true, false, _||_, not, cond, or-assoc, or-comm, Bool·not-not, true≢false}
 use native.Mathlib.Omega.{arith}
 use native.Mathlib.Nat.{add-mul, mul-add, mul-assoc, mul-le-mul-right, div-div-eq-div-mul, mod-lt, mod-eq-of-lt, zero-div, zero-mod}
 use native.Mathlib.Decide.{ℕ-discrete}
@@ -54,34 +54,6 @@ lanes-times width (suc k) m f =
     ∙ ap (λ x. x + m * f 0) (sym (mul-assoc m (lanes width k (λ i. f (suc i))) (2 ^ width)) ∙ ap (λ x. x * 2 ^ width) (lanes-times width k m (λ i. f (suc i))))
 
 -- Tests
-
-some-first : (k : ℕ) (g : ℕ → Bool) → some (suc k) g ≡ (g 1 || some k (λ j. g (suc j)))
-unfolding some
-some-first zero g = refl
-some-first (suc k) g =
-    let last = g (suc (suc k)) in
-    let rest = some k (λ j. g (suc j)) in
-    ap (λ b. last || b) (some-first k g) ∙ sym (or-assoc last (g 1) rest) ∙ ap (λ b. b || rest) (or-comm last (g 1)) ∙ or-assoc (g 1) last rest
-
--- a number in two blocks is 0 where both are
-block-zero : (a b r : ℕ) → not (eqb (a * 2 ^ b + r) 0) ≡ (not (eqb r 0) || not (eqb a 0))
-block-zero a b zero = elim (ℕ-discrete a 0) [
-  | yes e ↦ ap not (eq-eqb (a * 2 ^ b + 0) 0 (rw e (omega arith)) ∙ sym (eq-eqb a 0 e))
-  | no f ↦ ap not (ne-eqb (a * 2 ^ b + 0) 0 (λ e. f (omega (arith, mul-le-mul-right a (pow-pos b)))) ∙ sym (ne-eqb a 0 f))
-]
-block-zero a b (suc r) = rw (ne-eqb (a * 2 ^ b + suc r) 0 (λ e. omega arith), ne-eqb (suc r) 0 (λ e. omega arith)) refl
-
--- some lane is not 0
-pub lanes-test : (width k : ℕ) (f : ℕ → ℕ) → not (eqb (lanes width k f) 0) ≡ some k (λ j. not (eqb (f (j - 1)) 0))
-unfolding lanes some
-lanes-test width zero f = refl
-lanes-test width (suc k) f =
-    block-zero (lanes width k (λ i. f (suc i))) width (f 0)
-    ∙ ap (λ b. not (eqb (f 0) 0) || b) (lanes-test width k (λ i. f (suc i)))
-    ∙ sym (some-first k (λ j. not (eqb (f (j - 1)) 0)) ∙ ap (λ b. not (eqb (f 0) 0) || b) (some-agree k _ _ (λ s a b. same s a)))
-  where
-    same : (s : ℕ) → 1 ≤ s → not (eqb (f (suc s - 1)) 0) ≡ not (eqb (f (suc (s - 1))) 0)
-    same s a = let e : suc s - 1 ≡ suc (s - 1) = omega arith in ap (λ j. not (eqb (f j) 0)) e
 
 -- one of two numbers is not 0
 pub or-test : (a b : ℕ) → not (eqb (bitOr a b) 0) ≡ (not (eqb a 0) || not (eqb b 0))
@@ -238,15 +210,18 @@ module _ (width k a b : ℕ) (a-in : a < 2 ^ (width * k)) (b-in : b < 2 ^ (width
     pub sub-le : b ≤ a
     sub-le = omega (arith, difference-is)
 
-  -- the same number, exactly where no lane differs
-  pub lane-same : eqb a b ≡ not (some k (λ j. not (eqb (lane width a (j - 1)) (lane width b (j - 1)))))
-  lane-same =
-      ap₂ eqb (lanes-of width k a a-in) (lanes-of width k b b-in)
-      ∙ lanes-same width k (lane width a) (lane width b) (lanes-fit width k a) (lanes-fit width k b)
+  -- another number, exactly where some lane differs
+  pub lane-differ : (f g : ℕ → ℕ) → ((i : ℕ) → i < k → lane width a i ≡ f i) → ((i : ℕ) → i < k → lane width b i ≡ g i)
+      → not (eqb a b) ≡ some k (λ j. not (eqb (f (j - 1)) (g (j - 1))))
+  lane-differ f g p q =
+      ap not (ap₂ eqb (lanes-of width k a a-in) (lanes-of width k b b-in) ∙ lanes-same width k (lane width a) (lane width b) (lanes-fit width k a) (lanes-fit width k b))
+      ∙ Bool·not-not (some k (λ j. not (eqb (lane width a (j - 1)) (lane width b (j - 1)))))
+      ∙ some-agree k (λ j. not (eqb (lane width a (j - 1)) (lane width b (j - 1)))) (λ j. not (eqb (f (j - 1)) (g (j - 1))))
+      (λ j l m. ap₂ (λ x y. not (eqb x y)) (p (j - 1) (omega arith)) (q (j - 1) (omega arith)))
 
 -- a number is not 0 exactly where some lane is not
 pub lane-test : (width k x : ℕ) → x < 2 ^ (width * k) → not (eqb x 0) ≡ some k (λ j. not (eqb (lane width x (j - 1)) 0))
-lane-test width k x l = ap (λ y. not (eqb y 0)) (lanes-of width k x l) ∙ lanes-test width k (lane width x)
+lane-test width k x l = lane-differ width k x 0 l (pow-pos (width * k)) (lane width x) (λ i. 0) (λ i p. refl) (λ i p. lane-none width i)
 
 -- The same number in each lane
 

@@ -1,7 +1,7 @@
 -- Eight order entries in a word: the word's tests find a bad one exactly where there is one.
 use Prim.Native.Nat.{ℕ, suc, _+_, _-_, _*_, _/_, _%_, _^_, _≤_, _<_}
 use mathlib.Core.Path.{_≡_, refl, sym, ap, ap₂, _∙_}
-use mathlib.Core.Bool.{Bool, true, false, _&&_, _||_, not, cond, Bool·not-not}
+use mathlib.Core.Bool.{Bool, true, false, _&&_, _||_, not, cond}
 use native.Mathlib.Omega.{arith}
 use native.Mathlib.Nat.{mod-eq-of-lt}
 use borrow.Author.Tests.{eq-eqb, ne-eqb}
@@ -13,7 +13,7 @@ use Rattle.image.specs.Lanes.{lanes, lane}
 use Rattle.image.proofs.Search.{some-agree, some-or}
 use Rattle.image.proofs.Bits.{bit-left, bit-test, has-top}
 use Rattle.image.proofs.NameLanes.{some-test}
-use Rattle.image.proofs.Lanes.{Fits, lanes-agree, lanes-lt, lanes-times, lanes-of, lane-of, same-lane, sevens-lane, eighths-lane, lane-and, lane-add, sum-lt, lane-same}
+use Rattle.image.proofs.Lanes.{Fits, lanes-agree, lanes-lt, lanes-times, lanes-of, lane-of, same-lane, sevens-lane, eighths-lane, lane-and, lane-add, sum-lt, lane-differ}
 
 -- Words with a bit in each byte
 
@@ -116,8 +116,8 @@ lacks false b k = ap (λ x. not (eqb x 0)) (and-zero-r b)
 
 -- Eight stalls
 
-module _ (o : ℕ → ℕ) (o-in : Fits 8 8 o) (set own orders sets marks : ℕ) (set-in : set < 256) (own-from : 1 ≤ own) (own-to : own ≤ 8)
-    (orders-is : orders ≡ lanes 8 8 o) (sets-is : sets ≡ lanes 8 8 (λ i. set)) (marks-is : marks ≡ lanes 8 8 (λ i. cond (heard sets i) 255 0)) where
+module _ (o : ℕ → ℕ) (o-in : Fits 8 8 o) (set own orders sets ones : ℕ) (set-in : set < 256) (own-from : 1 ≤ own) (own-to : own ≤ 8)
+    (orders-is : orders ≡ lanes 8 8 o) (sets-is : sets ≡ lanes 8 8 (λ i. set)) (ones-is : ones ≡ lanes 8 8 (λ i. cond (heard sets i) 255 0)) where
   orders-in : orders < 2 ^ 64
   orders-in = rw orders-is (lanes-lt 8 8 o o-in)
 
@@ -127,56 +127,48 @@ module _ (o : ℕ → ℕ) (o-in : Fits 8 8 o) (set own orders sets marks : ℕ)
   set-lane : (i : ℕ) → i < 8 → lane 8 sets i ≡ set
   set-lane i l = ap (λ x. lane 8 x i) sets-is ∙ same-lane 8 8 set set-in i l
 
-  heard-lane : (i : ℕ) → i < 8 → lane 8 marks i ≡ cond (has set (suc i)) 255 0
+  heard-lane : (i : ℕ) → i < 8 → lane 8 ones i ≡ cond (has set (suc i)) 255 0
   heard-lane i l =
-      ap (λ x. lane 8 x i) marks-is
+      ap (λ x. lane 8 x i) ones-is
       ∙ lane-of 8 8 (λ j. cond (heard sets j) 255 0) (record { below = λ j p. ones-lt (heard sets j) }) i l
       ∙ ap (λ x. cond (has x (suc i)) 255 0) (set-lane i l)
 
-  -- `&` of the orders with a word whose lanes are known, compared with either
+  -- `&` of the orders with a word whose lanes are known
   and-lane : (x : ℕ) (f : ℕ → ℕ) → ((i : ℕ) → i < 8 → lane 8 x i ≡ f i) → (i : ℕ) → i < 8 → lane 8 (bitAnd orders x) i ≡ bitAnd (o i) (f i)
   and-lane x f e i l = lane-and 8 orders x i ∙ ap₂ bitAnd (order-lane i l) (e i l)
 
   and-in : (x : ℕ) → bitAnd orders x < 2 ^ 64
   and-in x = omega (arith, and-le-l orders x, orders-in)
 
-  differ : (x y : ℕ) (f g : ℕ → ℕ) → x < 2 ^ 64 → y < 2 ^ 64 → ((i : ℕ) → i < 8 → lane 8 x i ≡ f i) → ((i : ℕ) → i < 8 → lane 8 y i ≡ g i)
-      → not (eqb x y) ≡ some 8 (λ j. not (eqb (f (j - 1)) (g (j - 1))))
-  differ x y f g x-in y-in a b =
-      ap not (lane-same 8 8 x y x-in y-in)
-      ∙ Bool·not-not (some 8 (λ j. not (eqb (lane 8 x (j - 1)) (lane 8 y (j - 1)))))
-      ∙ some-agree 8 (λ j. not (eqb (lane 8 x (j - 1)) (lane 8 y (j - 1)))) (λ j. not (eqb (f (j - 1)) (g (j - 1))))
-      (λ j p q. ap₂ (λ u v. not (eqb u v)) (a (j - 1) (omega arith)) (b (j - 1) (omega arith)))
-
   -- a mark that is not allowed
   abbrev over : ℕ → Bool
   over j = not (eqb (bitAnd (o (j - 1)) (cond (has set j) set 0)) (o (j - 1)))
 
-  over-lane : (i : ℕ) → i < 8 → lane 8 (bitAnd sets marks) i ≡ cond (has set (suc i)) set 0
-  over-lane i l = lane-and 8 sets marks i ∙ ap₂ bitAnd (set-lane i l) (heard-lane i l) ∙ allowed set set-in (has set (suc i))
+  over-lane : (i : ℕ) → i < 8 → lane 8 (bitAnd sets ones) i ≡ cond (has set (suc i)) set 0
+  over-lane i l = lane-and 8 sets ones i ∙ ap₂ bitAnd (set-lane i l) (heard-lane i l) ∙ allowed set set-in (has set (suc i))
 
-  over-test : not (eqb (bitAnd orders (bitAnd sets marks)) orders) ≡ some 8 over
+  over-test : not (eqb (bitAnd orders (bitAnd sets ones)) orders) ≡ some 8 over
   over-test =
-      differ (bitAnd orders (bitAnd sets marks)) orders (λ i. bitAnd (o i) (cond (has set (suc i)) set 0)) o (and-in (bitAnd sets marks)) orders-in
-      (and-lane (bitAnd sets marks) (λ i. cond (has set (suc i)) set 0) over-lane) order-lane
+      lane-differ 8 8 (bitAnd orders (bitAnd sets ones)) orders (and-in (bitAnd sets ones)) orders-in (λ i. bitAnd (o i) (cond (has set (suc i)) set 0)) o
+      (and-lane (bitAnd sets ones) (λ i. cond (has set (suc i)) set 0) over-lane) order-lane
       ∙ some-agree 8 (λ j. not (eqb (bitAnd (o (j - 1)) (cond (has set (suc (j - 1))) set 0)) (o (j - 1)))) over
       (λ j p q. let e : suc (j - 1) ≡ j = omega arith in ap (λ k. not (eqb (bitAnd (o (j - 1)) (cond (has set k) set 0)) (o (j - 1)))) e)
 
   -- a mark that a heard stall lacks: k tells which, by the stall
   module _ (x : ℕ) (k : ℕ → ℕ) (x-lane : (i : ℕ) → i < 8 → lane 8 x i ≡ 2 ^ k i) (k-to : (i : ℕ) → i < 8 → k i < 8) where
-    want-lane : (i : ℕ) → i < 8 → lane 8 (bitAnd marks x) i ≡ cond (has set (suc i)) (2 ^ k i) 0
-    want-lane i l = lane-and 8 marks x i ∙ ap₂ bitAnd (heard-lane i l) (x-lane i l) ∙ wanted (has set (suc i)) (k i) (k-to i l)
+    want-lane : (i : ℕ) → i < 8 → lane 8 (bitAnd ones x) i ≡ cond (has set (suc i)) (2 ^ k i) 0
+    want-lane i l = lane-and 8 ones x i ∙ ap₂ bitAnd (heard-lane i l) (x-lane i l) ∙ wanted (has set (suc i)) (k i) (k-to i l)
 
-    want-in : bitAnd marks x < 2 ^ 64
-    want-in = omega (arith, and-le-l marks x, marks-lt)
+    want-in : bitAnd ones x < 2 ^ 64
+    want-in = omega (arith, and-le-l ones x, ones-in)
       where
-        marks-lt : marks < 2 ^ 64
-        marks-lt = rw marks-is (lanes-lt 8 8 (λ i. cond (heard sets i) 255 0) (record { below = λ i l. ones-lt (heard sets i) }))
+        ones-in : ones < 2 ^ 64
+        ones-in = rw ones-is (lanes-lt 8 8 (λ i. cond (heard sets i) 255 0) (record { below = λ i l. ones-lt (heard sets i) }))
 
-    lack-test : not (eqb (bitAnd orders (bitAnd marks x)) (bitAnd marks x)) ≡ some 8 (λ j. has set j && not (has (o (j - 1)) (suc (k (j - 1)))))
+    lack-test : not (eqb (bitAnd orders (bitAnd ones x)) (bitAnd ones x)) ≡ some 8 (λ j. has set j && not (has (o (j - 1)) (suc (k (j - 1)))))
     lack-test =
-        differ (bitAnd orders (bitAnd marks x)) (bitAnd marks x) (λ i. bitAnd (o i) (cond (has set (suc i)) (2 ^ k i) 0)) (λ i. cond (has set (suc i)) (2 ^ k i) 0)
-        (and-in (bitAnd marks x)) want-in (and-lane (bitAnd marks x) (λ i. cond (has set (suc i)) (2 ^ k i) 0) want-lane) want-lane
+        lane-differ 8 8 (bitAnd orders (bitAnd ones x)) (bitAnd ones x) (and-in (bitAnd ones x)) want-in (λ i. bitAnd (o i) (cond (has set (suc i)) (2 ^ k i) 0))
+        (λ i. cond (has set (suc i)) (2 ^ k i) 0) (and-lane (bitAnd ones x) (λ i. cond (has set (suc i)) (2 ^ k i) 0) want-lane) want-lane
         ∙ some-agree 8 (λ j. not (eqb (bitAnd (o (j - 1)) (cond (has set (suc (j - 1))) (2 ^ k (j - 1)) 0)) (cond (has set (suc (j - 1))) (2 ^ k (j - 1)) 0)))
         (λ j. has set j && not (has (o (j - 1)) (suc (k (j - 1)))))
         (λ j p q.
@@ -194,9 +186,9 @@ module _ (o : ℕ → ℕ) (o-in : Fits 8 8 o) (set own orders sets marks : ℕ)
   abbrev bad : ℕ → Bool
   bad j = over j || has set j && not (has (o (j - 1)) j) || has set j && not (has (o (j - 1)) own)
 
-  pub marks-test : (not (eqb (bitAnd orders (bitAnd sets marks)) orders)
-      || not (eqb (bitAnd orders (bitAnd marks 0x8040201008040201)) (bitAnd marks 0x8040201008040201))
-      || not (eqb (bitAnd orders (bitAnd marks own-ones)) (bitAnd marks own-ones)))
+  pub marks-test : (not (eqb (bitAnd orders (bitAnd sets ones)) orders)
+      || not (eqb (bitAnd orders (bitAnd ones 0x8040201008040201)) (bitAnd ones 0x8040201008040201))
+      || not (eqb (bitAnd orders (bitAnd ones own-ones)) (bitAnd ones own-ones)))
       ≡ some 8 bad
   marks-test =
       ap₂ _||_ (ap₂ _||_ over-test (lack-test 0x8040201008040201 (λ i. i) diagonal-lane (λ i l. l))) (lack-test own-ones (λ i. own - 1) own-ones-lane (λ i l. omega arith))

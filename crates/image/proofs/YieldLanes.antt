@@ -1,7 +1,7 @@
 -- Yields in the lanes of a word, four at a time: the word's test finds a bad one exactly where there is one.
 use Prim.Native.Nat.{ℕ, _+_, _-_, _*_, _%_, _^_, _≤_, _<_, min}
 use mathlib.Core.Path.{_≡_, sym, ap, ap₂, _∙_}
-use mathlib.Core.Bool.{Bool, _&&_, _||_, not, cond, or-comm, Bool·not-not}
+use mathlib.Core.Bool.{Bool, _&&_, _||_, not, cond, or-comm}
 use mathlib.Core.List.{List}
 use native.Mathlib.Omega.{arith}
 use native.Mathlib.Decide.{decLe, ℕ-discrete}
@@ -15,7 +15,7 @@ use Rattle.image.specs.Layout.{word, isYield, noYield}
 use Rattle.image.proofs.Search.{some-agree}
 use Rattle.image.proofs.Bits.{has-and, has-or, has-top, bit-left}
 use Rattle.image.proofs.Windows.{some-reversed, one-window, two-windows}
-use Rattle.image.proofs.Lanes.{same-lane, same-lt, lane-of, lane-lt, lane-and, lane-or, lane-add, sum-lt, lane-same, lane-within, lane-behind}
+use Rattle.image.proofs.Lanes.{same-lane, same-lt, lane-of, lane-lt, lane-and, lane-or, lane-add, sum-lt, lane-differ, lane-within, lane-behind}
 use Rattle.image.proofs.YieldRange.{yield-in}
 
 abbrev bad : ℕ → Bool
@@ -126,9 +126,9 @@ module _ (w : ℕ) where
 
   pub four-test : not (eqb (tops (bitOr w low-over)) (tops (bitAnd w low-none))) ≡ bad-in w 4
   four-test =
-      ap not (lane-same 16 4 (tops (bitOr w low-over)) (tops (bitAnd w low-none)) (tops-in (bitOr w low-over)) (tops-in (bitAnd w low-none)))
-      ∙ Bool·not-not _
-      ∙ some-agree 4 _ _ (λ j a b. ap not (ap₂ eqb (lane-overs (j - 1) (omega arith)) (lane-nones (j - 1) (omega arith)) ∙ yield-test (lane 16 w (j - 1)) (lane-lt 16 w (j - 1))))
+      lane-differ 16 4 (tops (bitOr w low-over)) (tops (bitAnd w low-none)) (tops-in (bitOr w low-over)) (tops-in (bitAnd w low-none))
+      (λ i. over (lane 16 w i)) (λ i. none (lane 16 w i)) lane-overs lane-nones
+      ∙ some-agree 4 _ _ (λ j a b. ap not (yield-test (lane 16 w (j - 1)) (lane-lt 16 w (j - 1))))
 
 -- of the first m alone: the others become 0, which is a yield
 first-test : (w m : ℕ) → m ≤ 4 → bad-in (bitAnd w (2 ^ (16 * m) - 1)) 4 ≡ bad-in w m

@@ -26,7 +26,7 @@ const FIRST_COLUMNS: u64 = 0x0004000300020001;
 
 // What takes the partner bytes of four names to 128 and above where they are over n, and the label bytes where they are over the limit.
 fn limits_of(n: usize) -> u64
-    requires { ⌜ (2 ≤ n) × (n ≤ largest) ⌝ }
+    requires { ⌜ n ≤ largest ⌝ }
     ensures { λ r. ⌜ r ≡ pairs (λ j. 127 - n) (λ j. 127 - labelLimit n) ⌝ }
 {
     SEVENS - four_times((Head::label_limit(n as u8) * 256 + n) as u64)
@@ -43,7 +43,7 @@ fn columns_from(c: usize) -> u64
 // Bits where some of four names in a word is bad by itself, a partner byte and a label byte each; the first stands behind column c. A byte is
 // over its limit, a partner is its own column, or a label has no partner: sums and differences of bytes below 128 carry into no other.
 fn bad_four(w: u64, n: usize, c: usize) -> u64
-    requires { ⌜ (2 ≤ n) × (n ≤ largest) × (c ≤ largest) ⌝ }
+    requires { ⌜ (n ≤ largest) × (c ≤ largest) ⌝ }
     ensures { λ r. ⌜ not (eqb r 0) ≡ some 4 (λ j. badName n (labelLimit n) (c + j) (lane 8 w (j * 2 - 2)) (lane 8 w (j * 2 - 1))) ⌝ }
 {
     let low = w & SEVENS;

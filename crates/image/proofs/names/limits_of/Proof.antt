@@ -13,8 +13,8 @@ limits-of-spec =
     (tie.spec
     (λ c. search needs)
     (λ c κs. tt)
-    (λ c. let l = limit-bits (c .before .args .n) (c .before .pre .1) in omega (arith, c .label-limit .ensures))
-    (λ c. let l = limit-bits (c .before .args .n) (c .before .pre .1) in omega (arith, c .label-limit .ensures))
-    (λ c κs. let l = limit-bits (c .before .args .n) (c .before .pre .1) in omega (arith, c .label-limit .ensures))
-    (λ c. let l = limit-bits (c .before .before .args .n) (c .before .before .pre .1) in omega (arith, c .four-times .ensures, c .before .label-limit .ensures))
-    (λ c. let l = limit-bits (c .before .before .args .n) (c .before .before .pre .1) in omega (arith, c .four-times .ensures, c .before .label-limit .ensures)))
+    (λ c. let l = limit-bits (c .before .args .n) (c .before .pre) in omega (arith, c .label-limit .ensures))
+    (λ c. let l = limit-bits (c .before .args .n) (c .before .pre) in omega (arith, c .label-limit .ensures))
+    (λ c κs. let l = limit-bits (c .before .args .n) (c .before .pre) in omega (arith, c .label-limit .ensures))
+    (λ c. let l = limit-bits (c .before .before .args .n) (c .before .before .pre) in omega (arith, c .four-times .ensures, c .before .label-limit .ensures))
+    (λ c. let l = limit-bits (c .before .before .args .n) (c .before .before .pre) in omega (arith, c .four-times .ensures, c .before .label-limit .ensures)))
