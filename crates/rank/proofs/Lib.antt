@@ -1,0 +1,7 @@
+-- The lemmas of `rank`. What crates above cite is `pub mod`.
+pub mod Before
+pub mod Ranking
+pub mod Exchange
+pub mod Insertion
+pub mod Front
+pub mod Theory
