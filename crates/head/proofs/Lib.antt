@@ -2,7 +2,8 @@
 pub mod Milking
 pub mod Freshness
 pub mod Stores
-pub mod Records
+pub mod Gathering
+pub mod Listed
 pub mod HeardLists
 pub mod HeardCalls
 pub mod SettledCounts

@@ -7,7 +7,7 @@ use Rattle.image.specs.Fresh.{freshImage}
 use Rattle.image.specs.Stalls.{count}
 use Rattle.image.specs.Examples.{evaluated, notMilked, metOnce, listing}
 use Rattle.head.specs.Calls.{refused, milked, milkingCall}
-use Rattle.head.specs.Heard.{recordOf}
+use Rattle.head.specs.Heard.{recordOf, bytesOf}
 use Rattle.head.specs.Settled.{settledCounts, settledFrom, settledCall}
 
 -- "A milking with ffff is still number 4", as with every number over 999
@@ -17,7 +17,7 @@ unfolding evaluated milked milkingCall
 milking-examples = (refl, refl)
 
 -- head 2 met before it was milked: its record has ffff. Stall 1 gave nothing: 0.
-record-examples : recordOf (metOnce 0 0 0xffff 0xffff) 3 1 ++ recordOf (metOnce 0 0 0xffff 0xffff) 3 2 ≡ 1 ∷ 0 ∷ 0 ∷ 2 ∷ 0xff ∷ 0xff ∷ []
+record-examples : bytesOf (recordOf (metOnce 0 0 0xffff 0xffff) 3 1) ++ bytesOf (recordOf (metOnce 0 0 0xffff 0xffff) 3 2) ≡ 1 ∷ 0 ∷ 0 ∷ 2 ∷ 0xff ∷ 0xff ∷ []
 unfolding evaluated
 record-examples = refl
 

@@ -1,44 +1,79 @@
 -- The heard list.
--- Document 01: "The heard list of an image writes, for each heard stall, the stall byte and two yield bytes, then zeros to the end, and returns how many.
--- The order of records is open for now."
-use Prim.Native.Nat.{ℕ, _+_, _-_, _*_}
+-- Document 01: "The heard list of an image writes, for each heard stall, the stall byte and two yield bytes, then zeros to the end, and returns how many."
+-- Request 2026-07: "The records now come with the largest yield first, equal yields by lower stall number, and heard but not milked last, again by stall number.
+-- No choice of order is left."
+use Prim.Native.Nat.{ℕ, zero, suc, _+_, _-_, _*_, _/_, _%_}
 use mathlib.Core.Path.{_≡_}
-use mathlib.Core.Bool.{Bool, true, false, _&&_, cond}
-use mathlib.Core.List.{List, [], _∷_, _++_, flatMap}
+use mathlib.Core.Bool.{Bool, _&&_, not, cond}
+use mathlib.Core.List.{List, [], _∷_, _++_, map, flatMap}
 use lib.Dec.{leb, eqb}
-use lib.ListN.{length, getD, replicate}
-use Rattle.image.specs.Layout.{yieldPlace, heardAt}
+use lib.ListN.{length, replicate}
+use Rattle.image.specs.Layout.{yieldAt, heardAt}
 use Rattle.image.specs.Check.{checked}
-use Rattle.image.specs.declared.Header.{Header}
 use Rattle.image.specs.declared.Checked.{Checked}
 use Rattle.image.specs.declared.Checked.the-variants.{Good, Refused}
+use Rattle.rank.specs.declared.Record.{Record}
+use Rattle.rank.specs.Order.{InOrder, ranked}
+
+-- What can be checked of a list by hand
 
 -- how often a list has r
 unfoldable pub occurrences : ℕ → List ℕ → ℕ
 occurrences r [] = 0
 occurrences r (a ∷ l) = cond (eqb r a) 1 0 + occurrences r l
 
+-- a test holds of every record
+unfoldable pub Every : (Record → Type 0) → List Record → Type 0
+Every P [] = Unit {0}
+Every P (r ∷ l) = P r × Every P l
+
+-- "each heard stall and no other has one record, with its yield", and the records are in order. One list of records is so, and no other (Theory.antt: one-list).
+pub record HeardList (s : List ℕ) (n own : ℕ) (l : List Record) : Type 0 where
+  pub each-once : (r : ℕ) → occurrences r (map (λ x. x .stall) l) ≡ cond (leb 1 r && (leb r n && heardAt s n own r)) 1 0
+  pub with-yields : Every (λ x. x .given ≡ yieldAt s n (x .stall)) l
+  pub in-order : InOrder l
+
+-- That list, computed
+
+-- the stalls of 1 to n that pass a test, by number
+unfoldable pub chosen : ℕ → (ℕ → Bool) → List ℕ
+chosen zero f = []
+chosen (suc n) f = chosen n f ++ cond (f (suc n)) (suc n ∷ []) []
+
 -- the record of stall r
-abbrev pub recordOf : List ℕ → ℕ → ℕ → List ℕ
-recordOf s n r = r ∷ getD s (yieldPlace n r) 0 ∷ getD s (yieldPlace n r + 1) 0 ∷ []
+abbrev pub recordOf : List ℕ → ℕ → ℕ → Record
+recordOf s n r = record { stall = r; given = yieldAt s n r }
 
--- The records stand in some order of the stalls, the program's choice: each heard stall and no other has one record, with its yield; zeros follow; and the
--- count is that of the records.
-pub record HeardList (s : List ℕ) (n own count : ℕ) (out : List ℕ) : Type 0 where
-  pub stalls : List ℕ
-  pub each-once : (r : ℕ) → occurrences r stalls ≡ cond (leb 1 r && (leb r n && heardAt s n own r)) 1 0
-  pub written : out ≡ flatMap (recordOf s n) stalls ++ replicate (3 * n - 3 * count) 0
-  pub counted : count ≡ length stalls
+unfoldable pub heardRecords : List ℕ → ℕ → ℕ → List Record
+heardRecords s n own = ranked (map (recordOf s n) (chosen n (heardAt s n own)))
 
--- for an accepted image: the list, where the buffer has 3 × N bytes; else 8, and the buffer as it was
-abbrev pub HeardInto : List ℕ → List ℕ → ℕ → List ℕ → Header → Bool → Type 0
-HeardInto s buffer answer out h true = HeardList s (h .n) (h .stall) answer out
-HeardInto s buffer answer out h false = (answer ≡ 256 + 8) × (out ≡ buffer)
+-- "the stall byte and two yield bytes", high first
+abbrev pub bytesOf : Record → List ℕ
+bytesOf r = r .stall ∷ r .given / 256 ∷ r .given % 256 ∷ []
 
-abbrev pub HeardFrom : List ℕ → List ℕ → ℕ → List ℕ → Checked → Type 0
-HeardFrom s buffer answer out (Good h) = HeardInto s buffer answer out h (eqb (length buffer) (3 * h .n))
-HeardFrom s buffer answer out (Refused number) = (answer ≡ 256 + number) × (out ≡ buffer)
+-- how many records there are, and their bytes
+unfoldable pub heardCount : List ℕ → ℕ → ℕ → ℕ
+heardCount s n own = length (heardRecords s n own)
 
--- "the heard list 1 to 6, then 8": the buffer before the call, the answer, 256 plus the number where it is refused, and the buffer afterwards
-pub record HeardCall (s buffer : List ℕ) (answer : ℕ) (out : List ℕ) : Type 0 where
-  pub heard : HeardFrom s buffer answer out (checked s)
+unfoldable pub heardBytes : List ℕ → ℕ → ℕ → List ℕ
+heardBytes s n own = flatMap bytesOf (heardRecords s n own)
+
+-- The call
+
+-- the answer, and the buffer afterwards
+pub record HeardOutcome : Type 0 where
+  pub answer : ℕ
+  pub records : List ℕ
+
+-- "then zeros to the end, and returns how many"
+abbrev pub heardList : List ℕ → ℕ → ℕ → HeardOutcome
+heardList s n own = record { answer = heardCount s n own; records = heardBytes s n own ++ replicate (3 * n - 3 * heardCount s n own) 0 }
+
+-- by what the check finds: 256 plus 1 to 6 for the image, then plus 8 for a buffer that is not 3 × N bytes, and the buffer as it was; else the list
+unfoldable pub heardFrom : List ℕ → List ℕ → Checked → HeardOutcome
+heardFrom s buffer (Good h) = cond (not (eqb (length buffer) (3 * h .n))) (record { answer = 256 + 8; records = buffer }) (heardList s (h .n) (h .stall))
+heardFrom s buffer (Refused number) = record { answer = 256 + number; records = buffer }
+
+-- "the heard list 1 to 6, then 8"
+abbrev pub heardCall : List ℕ → List ℕ → HeardOutcome
+heardCall s buffer = heardFrom s buffer (checked s)

@@ -5,4 +5,4 @@ pub mod Settled
 pub mod Theory
 pub mod Examples
 -- What the functions behind the heard list say to each other. No caller sees this.
-pub mod HeardOrder
+pub mod Gathered

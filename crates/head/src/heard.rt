@@ -1,20 +1,27 @@
-// The heard list: records of three bytes, a stall and its yield.
+// The heard list: records of three bytes, a stall and its yield, in ranking order.
 ghost use mathlib.Core.Path.{_≡_};
-ghost use Prim.Native.Nat.{_+_, _-_, _*_, _≤_};
+ghost use Prim.Native.Nat.{_+_, _-_, _*_, _≤_, _<_};
 ghost use mathlib.Core.Bool.{not, cond};
-ghost use mathlib.Core.List.{[], _∷_, _++_};
+ghost use mathlib.Core.List.{[], _∷_, _++_, flatMap};
 ghost use lib.ListN.{length, take, drop, replicate};
 ghost use Rattle.image.specs.Frame.{Framed};
-ghost use Rattle.image.specs.Layout.{largest};
+ghost use Rattle.image.specs.Layout.{largest, word};
 ghost use Rattle.image.specs.Row.{isNever};
-ghost use Rattle.head.specs.Heard.{HeardList};
-ghost use Rattle.head.specs.HeardOrder.{chosen, heardIn, recordsTo};
+ghost use Rattle.head.specs.Heard.{bytesOf, HeardOutcome, heardList};
+ghost use Rattle.head.specs.Gathered.{recordsTo};
 use image::Entry;
 use image::STALLS;
 use image::bytes::wide;
 use image::bytes::yields_place;
 use image::rows::is_never;
 use image::rows::own_row;
+use rank::Record;
+
+// The first records of an array.
+struct Gathered {
+    records: [Record; STALLS],
+    count: usize,
+}
 
 // A record has a name.
 fn is_heard(e: Entry) -> bool
@@ -24,69 +31,93 @@ fn is_heard(e: Entry) -> bool
     !is_never(name)
 }
 
-// One record at a place if the stall is heard, and the place after it.
-fn put_record(records: &mut [u8], at: usize, heard: bool, stall: u8, high: u8, low: u8) -> usize
-    requires { ⌜ at + 3 ≤ length (now records) ⌝ }
-    ensures { λ r.
-        ⌜ (r ≡ cond heard (at + 3) at)
-        × (now (records .exit)
-        ≡ cond heard (take at (now (records .entry)) ++ (stall ∷ high ∷ low ∷ []) ++ drop (at + 3) (now (records .entry))) (now (records .entry))) ⌝ }
+// The record of a stall whose yield is at a place.
+fn record_at(image: &[u8], stall: usize, at: usize) -> Record
+    requires { ⌜ (stall < 256) × (at + 1 < length (now image)) ⌝ }
+    ensures { λ r. ⌜ r ≡ record { stall = stall; given = word (now (image .entry)) at } ⌝ }
 {
-    if heard {
-        records[at] = stall;
-        records[at + 1] = high;
-        records[at + 2] = low;
-        return at + 3;
+    Record {
+        stall: stall as u8,
+        given: (wide(image[at]) * 256 + wide(image[at + 1])) as u16,
     }
-    at
 }
 
-// Zeros from a place on.
-fn clear_from(records: &mut [u8], at: usize)
-    requires { ⌜ at ≤ length (now records) ⌝ }
-    ensures { λ r. ⌜ now (records .exit) ≡ take at (now (records .entry)) ++ replicate (length (now (records .entry)) - at) 0 ⌝ }
+// One more where something holds.
+fn one_more(count: usize, holds: bool) -> usize
+    requires { ⌜ count < largest ⌝ }
+    ensures { λ r. ⌜ r ≡ count + cond holds 1 0 ⌝ }
 {
-    let mut i = at;
-    while i < records.len() {
-        records[i] = 0;
+    if holds { count + 1 } else { count }
+}
+
+// The records of the heard stalls of a row, by stall number. One of a stall never heard is written too, and the next takes its place.
+fn gather(image: &[u8], n: usize, yields: usize, row: [Entry; STALLS]) -> Gathered
+    requires { ⌜ (n ≤ largest) × (yields + n * 2 ≤ length (now image)) × (length row ≡ largest) ⌝ }
+    ensures { λ g.
+        ⌜ (g .count ≤ n)
+        × (length (g .records) ≡ largest)
+        × (take (g .count) (g .records) ≡ recordsTo (now (image .entry)) yields row n) ⌝ }
+{
+    let mut records = [Record { stall: 0, given: 0 }; STALLS];
+    let mut count = 0usize;
+    let mut at = yields;
+    let mut r = 0usize;
+    while r < n {
+        let e = row[r];
+        records[count] = record_at(image, r + 1, at);
+        count = one_more(count, is_heard(e));
+        at += 2;
+        r += 1;
+    }
+    Gathered { records, count }
+}
+
+// The bytes of a record at a place.
+fn put_record(bytes: &mut [u8], at: usize, r: Record)
+    requires { ⌜ at + 3 ≤ length (now bytes) ⌝ }
+    ensures { λ _. ⌜ now (bytes .exit) ≡ take at (now (bytes .entry)) ++ bytesOf r ++ drop (at + 3) (now (bytes .entry)) ⌝ }
+{
+    let given = r.given;
+    bytes[at] = r.stall;
+    bytes[at + 1] = (given / 256) as u8;
+    bytes[at + 2] = (given % 256) as u8;
+}
+
+// The bytes of the first records of an array.
+fn put_records(bytes: &mut [u8], records: [Record; STALLS], count: usize)
+    requires { ⌜ (count ≤ largest) × (3 * count ≤ length (now bytes)) × (length records ≡ largest) ⌝ }
+    ensures { λ r. ⌜ now (bytes .exit) ≡ flatMap bytesOf (take count records) ++ drop (3 * count) (now (bytes .entry)) ⌝ }
+{
+    let mut i = 0usize;
+    while i < count {
+        put_record(bytes, 3 * i, records[i]);
         i += 1;
     }
 }
 
-// The records of the heard stalls of a row, by stall number, and where they end.
-fn put_records(
-    image: &[u8],
-    n: usize,
-    yields: usize,
-    row: [Entry; STALLS],
-    records: &mut [u8],
-) -> usize
-    requires { ⌜ (n ≤ largest) × (yields + n * 2 ≤ length (now image)) × (length (now records) ≡ 3 * n) × (length row ≡ largest) ⌝ }
-    ensures { λ r.
-        ⌜ (r ≡ 3 * length (chosen n (heardIn row)))
-        × (now (records .exit) ≡ recordsTo (now (image .entry)) yields row n ++ drop r (now (records .entry))) ⌝ }
+// Zeros from a place on.
+fn clear_from(bytes: &mut [u8], at: usize)
+    requires { ⌜ at ≤ length (now bytes) ⌝ }
+    ensures { λ r. ⌜ now (bytes .exit) ≡ take at (now (bytes .entry)) ++ replicate (length (now (bytes .entry)) - at) 0 ⌝ }
 {
-    let mut at = 0usize;
-    let mut y = yields;
-    let mut r = 1usize;
-    while r <= n {
-        let e = row[r - 1];
-        let next = put_record(records, at, is_heard(e), r as u8, image[y], image[y + 1]);
-        at = next;
-        y += 2;
-        r += 1;
+    let mut i = at;
+    while i < bytes.len() {
+        bytes[i] = 0;
+        i += 1;
     }
-    at
 }
 
 // The heard list of an accepted image into a buffer of the right length.
-pub(crate) fn heard_list(image: &[u8], n: u8, own: u8, records: &mut [u8]) -> u32
-    requires { ⌜ Framed (now image) n own × (length (now records) ≡ 3 * n) ⌝ }
-    ensures { λ r. ⌜ HeardList (now (image .entry)) n own r (now (records .exit)) ⌝ }
+pub(crate) fn heard_list(image: &[u8], n: u8, own: u8, bytes: &mut [u8]) -> u32
+    requires { ⌜ Framed (now image) n own × (length (now bytes) ≡ 3 * n) ⌝ }
+    ensures { λ r. ⌜ _≡_ {A = HeardOutcome} (record { answer = r; records = now (bytes .exit) }) (heardList (now (image .entry)) n own) ⌝ }
 {
     let m = wide(n);
     let row = own_row(image, n, own);
-    let end = put_records(image, m, yields_place(image.len(), m), row, records);
-    clear_from(records, end);
-    (end / 3) as u32
+    let heard = gather(image, m, yields_place(image.len(), m), row);
+    let count = heard.count;
+    let gathered = heard.records;
+    put_records(bytes, rank::in_order(gathered, count), count);
+    clear_from(bytes, 3 * count);
+    count as u32
 }

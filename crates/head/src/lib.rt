@@ -4,7 +4,7 @@ ghost use Prim.Native.Nat.{_≤_};
 ghost use lib.ListN.{length, take};
 ghost use Rattle.image.specs.Layout.{longest};
 ghost use Rattle.head.specs.Calls.{Outcome, freshCall, milkingCall};
-ghost use Rattle.head.specs.Heard.{HeardCall};
+ghost use Rattle.head.specs.Heard.{HeardOutcome, heardCall};
 ghost use Rattle.head.specs.Settled.{Settled, settledCall};
 ghost use Rattle.image.specs.Check.{checked, numberOf};
 ghost use Rattle.merge.specs.Call.{MeetingOutcome, meetingCall};
@@ -72,10 +72,10 @@ pub extern "C" fn wilbryn_milking(image: &mut [u8], given: u16) -> u32
     0
 }
 
-// The heard stalls of a table with their yields.
+// The heard stalls of a table with their yields, in ranking order.
 #[no_mangle]
 pub extern "C" fn wilbryn_heard(image: &[u8], records: &mut [u8]) -> u32
-    ensures { λ r. ⌜ HeardCall (now (image .entry)) (now (records .entry)) r (now (records .exit)) ⌝ }
+    ensures { λ r. ⌜ _≡_ {A = HeardOutcome} (record { answer = r; records = now (records .exit) }) (heardCall (now (image .entry)) (now (records .entry))) ⌝ }
 {
     let c = image::check(image);
     let Checked::Good(h) = c else {

@@ -81,13 +81,13 @@ has-part {s} {l} {i} h =
     getD-take (length l) (drop i s) k 0 b ∙ getD-drop i s k 0 ∙ h .byte k b)
 
 -- blocks one after the other
-pub flatMap-append : (f : ℕ → List ℕ) (l m : List ℕ) → flatMap f (l ++ m) ≡ flatMap f l ++ flatMap f m
+pub flatMap-append : {A : Type 0} (f : A → List ℕ) (l m : List A) → flatMap f (l ++ m) ≡ flatMap f l ++ flatMap f m
 unfolding flatMap
 flatMap-append f [] m = refl
 flatMap-append f (a ∷ l) m = ap (λ r. f a ++ r) (flatMap-append f l m) ∙ sym (append-assoc (f a) (flatMap f l) (flatMap f m))
 
 -- blocks of one width
-pub length-flatMap : (w : ℕ) (f : ℕ → List ℕ) → ((r : ℕ) → length (f r) ≡ w) → (l : List ℕ) → length (flatMap f l) ≡ length l * w
+pub length-flatMap : {A : Type 0} (w : ℕ) (f : A → List ℕ) → ((r : A) → length (f r) ≡ w) → (l : List A) → length (flatMap f l) ≡ length l * w
 unfolding flatMap
 length-flatMap w f wide [] = omega arith
 length-flatMap w f wide (a ∷ l) = length-append (f a) (flatMap f l) ∙ omega (arith, length-flatMap w f wide l, wide a)

@@ -9,10 +9,10 @@ use Rattle.head.proofs.heard.clear_from.Statement.{statement}
 use Rattle.head.proofs.heard.clear_from.Tie as tie
 
 abbrev Inv-loop : tie.InvT-loop
-Inv-loop records₀ at i₀ records i = (at ≤ i) × (i ≤ length records₀) × (records ≡ cleared records₀ at i) × (length records ≡ length records₀)
+Inv-loop bytes₀ at i₀ bytes i = (at ≤ i) × (i ≤ length bytes₀) × (bytes ≡ cleared bytes₀ at i) × (length bytes ≡ length bytes₀)
 
 abbrev μ-loop : tie.MeasureT-loop
-μ-loop records₀ at i₀ records i = length records₀ - i
+μ-loop bytes₀ at i₀ bytes i = length bytes₀ - i
 
 turn : (d records : List ℕ) (at i : ℕ) → at ≤ i → i < length d → records ≡ cleared d at i → set records i 0 ≡ cleared d at (i + 1)
 turn d records at i a l e = ap (λ r. set r i 0) e ∙ cleared-next d at i a l
@@ -27,6 +27,6 @@ clear-from-spec =
     (λ c. omega arith)
     (λ c. omega arith)
     (λ c. omega arith)
-    (λ c. (omega arith, omega arith, turn (c .before .before .args .records .now) (c .before .loop .records) (c .before .before .args .at) (c .before .loop .i) (omega arith) (omega arith) (c .before .loop .inv .2), simp length-set (c .before .loop .inv .3)))
+    (λ c. (omega arith, omega arith, turn (c .before .before .args .bytes .now) (c .before .loop .bytes) (c .before .before .args .at) (c .before .loop .i) (omega arith) (omega arith) (c .before .loop .inv .2), simp length-set (c .before .loop .inv .3)))
     (λ c. c .before .loop .inv .3)
     (λ c. c .before .loop .inv .2 ∙ cleared-end _ _ _ (omega arith)))

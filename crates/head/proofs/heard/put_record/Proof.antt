@@ -1,5 +1,4 @@
--- One record at a place if the stall is heard.
-use mathlib.Core.Path.{refl}
+-- The bytes of a record at a place.
 use native.Mathlib.Omega.{arith}
 use borrow.Author.Needs.{needs}
 use lib.ListN.{length-set}
@@ -13,10 +12,10 @@ put-record-spec =
     (tie.spec
     (λ c. search needs)
     (λ c. search needs)
-    (λ c. simp length-set (omega arith))
     (λ c. search needs)
     (λ c. simp length-set (omega arith))
     (λ c. search needs)
-    (λ c. simp length-set)
-    (λ c. rw (c .if1 .taken) (refl, store-three _ _ _ _ _ (c .before .pre)))
-    (λ c. rw (c .if1 .left) (refl, refl)))
+    (λ c. search needs)
+    (λ c. simp length-set (omega arith))
+    (λ c. search needs)
+    (λ c. store-three _ _ _ _ _ (c .pre)))
