@@ -5,6 +5,8 @@ pub mod Stores
 pub mod Gathering
 pub mod Listed
 pub mod HeardLists
+pub mod Occurrences
+pub mod OneList
 pub mod HeardCalls
 pub mod SettledCounts
 pub mod SettledLaws

@@ -15,6 +15,7 @@ use Rattle.head.specs.Calls.{refused, accepted as done, withCurrent, mil
 use Rattle.head.specs.Theory.{Theory}
 use Rattle.head.proofs.Milking.{milking-over}
 use Rattle.head.proofs.Milked.{milked-accepted}
+use Rattle.head.proofs.OneList.{heard-list, one-list}
 use Rattle.head.proofs.SettledLaws.{settled-long, settled-most, settled-heard}
 
 stays : (s : List ℕ) (yield : ℕ) → checked (milkingCall s yield .image) ≡ checked s
@@ -34,6 +35,8 @@ theory =
     record {
       milked-accepted = stays;
       not-milked-refused = λ s h e. sym (milking-over s noYield e none-over);
+      heard-list = heard-list;
+      one-list = one-list;
       settled-long = settled-long;
       settled-most = settled-most;
       settled-heard = λ s n own e. settled-heard (accepted s _ e);
