@@ -12,7 +12,7 @@ mod names;
 pub mod orders;
 pub mod rows;
 mod words;
-mod yields;
+pub mod yields;
 
 // The most heads that a parlour has, the bytes of a row of names of so many, and of their image.
 pub const LARGEST: u8 = 8;

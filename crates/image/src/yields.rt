@@ -22,7 +22,7 @@ use crate::words::first_lanes;
 use crate::words::four_numbers;
 
 // The number for not milked.
-pub(crate) fn is_not_milked(x: usize) -> bool
+pub fn is_not_milked(x: usize) -> bool
     ensures { λ r. ⌜ r ≡ eqb x noYield ⌝ }
 {
     x == (Head::NO_YIELD as usize)
