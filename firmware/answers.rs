@@ -42,19 +42,15 @@ pub struct Answer {
     frame: Option<Frame>,
 }
 
+/// What heard lists can show.
+pub const OF_HEARD: [&str; 4] = [
+    "0 beside not milked",
+    "equal yields",
+    "not milked behind a higher stall",
+    "a yield behind that of a higher stall",
+];
+
 impl Answer {
-    pub fn fits(&self, written: &[u8]) -> bool {
-        written == self.text
-            || self.has_records()
-                && written.len() == self.text.len()
-                && by_stall(written) == self.text
-    }
-
-    /// Whether the text ends in records, whose order is open.
-    fn has_records(&self) -> bool {
-        self.number == 0 && matches!(self.frame, Some(Frame::Heard(_)))
-    }
-
     /// Whether the line asks what is settled, taken or refused.
     pub fn is_of_settled(&self) -> bool {
         matches!(self.frame, Some(Frame::Settled(_)))
@@ -68,22 +64,30 @@ impl Answer {
         self.is_of_settled() && numbers.chunks(2).any(|number| number == all)
     }
 
-    /// Whether it is a heard list with a cow that gave nothing beside a head that was not milked.
-    pub fn shows_dry_and_not_milked(&self) -> bool {
-        let shows = |value: u16| {
-            let value = digits(&value.to_be_bytes());
-            self.text[4..].chunks(6).any(|record| record[2..] == value)
-        };
-        self.has_records() && shows(0) && shows(NOT_MILKED)
+    /// The yields of a heard list by rising stall; none of another answer.
+    fn yields(&self) -> Vec<u16> {
+        if self.number != 0 || !matches!(self.frame, Some(Frame::Heard(_))) {
+            return vec![];
+        }
+        let text = bytes(&self.text).expect("an answer is whole pairs of digits");
+        let mut records: Vec<&[u8]> = text[2..].chunks(3).collect();
+        records.sort();
+        records.iter().map(|record| u16::from_be_bytes([record[1], record[2]])).collect()
     }
-}
 
-/// A heard list with its records by rising stall: after 00 and the count, six digits each.
-fn by_stall(text: &[u8]) -> Vec<u8> {
-    let (start, records) = text.split_at(text.len().min(4));
-    let mut records: Vec<&[u8]> = records.chunks(6).collect();
-    records.sort();
-    [start, &records.concat()].concat()
+    /// Which of these it shows, if it is a heard list.
+    pub fn shows_of_heard(&self) -> [bool; OF_HEARD.len()] {
+        let yields = self.yields();
+        let some_two = |are_so: fn(u16, u16) -> bool| {
+            (1..yields.len()).any(|at| yields[..at].iter().any(|&one| are_so(one, yields[at])))
+        };
+        [
+            yields.contains(&0) && yields.contains(&NOT_MILKED),
+            some_two(|lower, higher| lower == higher && lower != NOT_MILKED),
+            some_two(|lower, higher| lower == NOT_MILKED && higher != NOT_MILKED),
+            some_two(|lower, higher| lower < higher && higher != NOT_MILKED),
+        ]
+    }
 }
 
 fn digits(bytes: &[u8]) -> Vec<u8> {

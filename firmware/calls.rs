@@ -212,12 +212,10 @@ impl Calls {
         answer
     }
 
-    /// The order of the records is open, so for comparing the library's are put by rising stall.
-    /// Answers what was left, in the library's order.
     pub fn heard(&self, counts: &mut Counts, image: &[u8], records: &[u8]) -> Outcome {
         let modelled = |image: &[u8], records: &mut [u8]| self.form.heard(image, records);
         let [library, model] = read_into(self.heard, modelled, image, records);
-        agree("heard", &[image, records], &by_stall(&library), &model);
+        agree("heard", &[image, records], &library, &model);
         counts.add("heard", library.answer);
         library
     }
@@ -244,17 +242,4 @@ impl Calls {
         agree("meeting", &lent, &library, &model);
         library
     }
-}
-
-/// What a heard list leaves, with its records by rising stall.
-fn by_stall(outcome: &Outcome) -> Outcome {
-    let mut sorted = outcome.clone();
-    if outcome.answer < 256 {
-        let mut list: Vec<&[u8]> =
-            outcome.runs[1].chunks(3).take(outcome.answer as usize).collect();
-        list.sort();
-        let list = list.concat();
-        sorted.runs[1][..list.len()].copy_from_slice(&list);
-    }
-    sorted
 }

@@ -1,5 +1,5 @@
-/* The examples of document 01 with requests 2026-01 to 2026-03 and 2026-05, on the functions of
-   wilbryn.h. */
+/* The examples of document 01 with requests 2026-01 to 2026-03, 2026-05 and 2026-07, on the
+   functions of wilbryn.h. */
 #include "check_calls.h"
 
 #include <string.h>
@@ -72,6 +72,7 @@ const struct form form = {
     .meeting = wilbryn_meeting,
     .examples = examples,
     .milked = "0201 0012 00000000 00000000 ffffffff 0000",
+    .alone = "0302 ffff 000000000000 000001000000 000000000000 ffff0012ffff 000200",
     .listing = {"0301 0012 020001000000 020001000000 000000000000 0012ffffffff 030300",
                 "0302 ffff 020001000000 020003000200 020003000200 0012ffffffff 070606",
                 "0303 ffff 020001000000 020003000200 020003000200 0012ffffffff 070606"},
@@ -116,17 +117,17 @@ static void try_not_milked(void) {
                              from_hex("01010100")};
     milking(0, images[2], 7);
     meeting(0, images[1], images[2], verdicts[0]);
-    heard(2, images[2], 12, "01ffff 020007");
+    heard(2, images[2], 12, "020007 01ffff");
     meeting(0, images[3], images[2], verdicts[1]);
-    heard(3, images[3], 12, "01ffff 020007 03ffff");
+    heard(3, images[3], 12, "020007 01ffff 03ffff");
     milking(0, images[1], 0);
-    heard(2, images[1], 12, "01ffff 020007");
+    heard(2, images[1], 12, "020007 01ffff");
     meeting(0, images[1], images[3], verdicts[2]);
     expect_hex("image 1", milked_late[0], images[1]);
     expect_hex("image 3", milked_late[1], images[3]);
-    heard(3, images[3], 12, "010000 020007 03ffff");
+    heard(3, images[3], 12, "020007 010000 03ffff");
     meeting(0, images[1], images[4], verdicts[3]);
-    heard(4, images[4], 12, "010000 020007 03ffff 04ffff");
+    heard(4, images[4], 12, "020007 010000 03ffff 04ffff");
     for (int i = 0; i < 4; i++) give_back(verdicts[i]);
     shut_parlour(parlour);
 }

@@ -109,25 +109,6 @@ void milking(uint32_t wanted, struct run image, uint16_t yield) {
     give_back(after);
 }
 
-static int by_stall(const void *a, const void *b) { return memcmp(a, b, 3); }
-
-/* list: the records wanted, by rising stall. Their order is open, so those written are put so. */
-void heard(uint32_t wanted, struct run image, size_t buffer, const char *list) {
-    struct run records = lend(buffer), after = lend(buffer), listed = from_hex(list);
-    struct run before[] = {copy(image), copy(records)};
-    if (wanted < 256) {
-        memset(after.bytes, 0, after.len);
-        memcpy(after.bytes, listed.bytes, listed.len);
-    }
-    uint32_t got = form.heard(image.bytes, image.len, records.bytes, records.len);
-    expect(HEARD, wanted, got, before, 2);
-    expect_bytes("image", before[0], image);
-    if (wanted < 256) qsort(records.bytes, wanted, 3, by_stall);
-    expect_bytes("records", after, records);
-    struct run all[] = {records, after, listed, before[0], before[1]};
-    for (int i = 0; i < 5; i++) give_back(all[i]);
-}
-
 /* Afterwards the buffer must hold this, and the image what it held before. */
 static void read_into(enum call call, reading *reading, uint32_t wanted, struct run image,
                       struct run wanted_output) {
@@ -139,6 +120,18 @@ static void read_into(enum call call, reading *reading, uint32_t wanted, struct 
     expect_bytes("the output", wanted_output, output);
     struct run all[] = {output, before[0], before[1]};
     for (int i = 0; i < 3; i++) give_back(all[i]);
+}
+
+/* list: the records wanted, in their order. */
+void heard(uint32_t wanted, struct run image, size_t buffer, const char *list) {
+    struct run after = lend(buffer), listed = from_hex(list);
+    if (wanted < 256) {
+        memset(after.bytes, 0, after.len);
+        memcpy(after.bytes, listed.bytes, listed.len);
+    }
+    read_into(HEARD, form.heard, wanted, image, after);
+    give_back(listed);
+    give_back(after);
 }
 
 void reading_refused(enum call call, reading *reading, uint32_t number, struct run image,
@@ -287,6 +280,18 @@ static void try_milking(void) {
     give_back(image);
 }
 
+struct parlour open_parlour(uint8_t n) {
+    struct parlour parlour = {.n = n};
+    for (uint8_t stall = 1; stall <= n; stall++) {
+        parlour.images[stall] = fresh_of(n, stall);
+    }
+    return parlour;
+}
+
+void shut_parlour(struct parlour parlour) {
+    for (uint8_t stall = 1; stall <= parlour.n; stall++) give_back(parlour.images[stall]);
+}
+
 static void try_heard(void) {
     doing = "the heard lists of the listing";
     struct run first = from_hex(form.listing[0]), last = from_hex(form.listing[2]);
@@ -296,6 +301,93 @@ static void try_heard(void) {
     heard(256 + 8, last, 10, "");
     give_back(last);
     give_back(first);
+}
+
+/* Heard lists by rising stall, and in ranking order as request 2026-07 says. */
+static const struct {
+    const char *what;
+    uint8_t n;
+    const char *by_stall, *ranking;
+} rankings[] = {
+    {"the larger yield first", 2, "010007 020012", "020012 010007"},
+    {"the larger yield first already", 2, "010012 020007", "010012 020007"},
+    {"the larger yield has the smaller low byte", 2, "0100ff 020100", "020100 0100ff"},
+    {"999 and 0", 2, "010000 0203e7", "0203e7 010000"},
+    {"two equal yields", 2, "010012 020012", "010012 020012"},
+    {"equal yields twice", 4, "010007 020012 030007 040012", "020012 040012 010007 030007"},
+    {"a larger one between equal ones", 3, "010012 020013 030012", "020013 010012 030012"},
+    {"0 before not milked", 2, "01ffff 020000", "020000 01ffff"},
+    {"0 twice before not milked", 4, "01ffff 020000 03ffff 040000", "020000 040000 01ffff 03ffff"},
+    {"not milked among milked", 5, "01ffff 020012 03ffff 040063 05ffff",
+     "040063 020012 01ffff 03ffff 05ffff"},
+    {"all not milked", 3, "01ffff 02ffff 03ffff", "01ffff 02ffff 03ffff"},
+    {"stalls never heard between", 8, "020005 04ffff 050009 080005", "050009 020005 080005 04ffff"},
+    {"head 3 of 6 has heard of 3 and 6", 6, "030000 0603e7", "0603e7 030000"},
+    {"eight equal yields", 8, "010012 020012 030012 040012 050012 060012 070012 080012",
+     "010012 020012 030012 040012 050012 060012 070012 080012"},
+    {"eight in the order of stalls", 8, "0103e7 020200 0301ff 040100 0500ff 060001 070000 08ffff",
+     "0103e7 020200 0301ff 040100 0500ff 060001 070000 08ffff"},
+    {"eight in reverse", 8, "010000 020001 0300ff 040100 0501ff 060200 0702ff 0803e7",
+     "0803e7 0702ff 060200 0501ff 040100 0300ff 020001 010000"},
+    {"eight in reverse, stall 1 not milked", 8,
+     "01ffff 020000 030001 040002 050003 060004 070005 080006",
+     "080006 070005 060004 050003 040002 030001 020000 01ffff"},
+    {"eight of all kinds", 8, "010000 02ffff 0303e7 040012 05ffff 060012 0703e7 080000",
+     "0303e7 0703e7 040012 060012 010000 080000 02ffff 05ffff"},
+};
+
+enum { RANKINGS = sizeof rankings / sizeof rankings[0] };
+
+/* The image of the head at the first of these records' stalls, which has met those at the others in
+   turn, so that each time the head has newer news of all before. Then the yields are put in. */
+static struct run image_with(uint8_t n, struct run records) {
+    struct parlour parlour = open_parlour(n);
+    struct run image = parlour.images[records.bytes[0]], verdicts = lend(n);
+    memset(verdicts.bytes, 0, n);
+    for (size_t at = 3; at < records.len; at += 3) {
+        meeting(0, image, parlour.images[records.bytes[at]], verdicts);
+        verdicts.bytes[records.bytes[0] - 1] = verdicts.bytes[records.bytes[at] - 1] = 1;
+    }
+    struct run made = copy(image);
+    for (size_t at = 0; at < records.len; at += 3) {
+        size_t yield = made.len - 3u * n + 2u * (records.bytes[at] - 1u);
+        memcpy(made.bytes + yield, records.bytes + at + 1, 2);
+    }
+    give_back(verdicts);
+    shut_parlour(parlour);
+    return made;
+}
+
+/* The list, and what refused calls leave: for each other length of buffer, and for a bad yield. */
+static void list_and_refuse(struct run image, uint32_t count, const char *ranking) {
+    size_t right = 3u * image.bytes[0];
+    heard(count, image, right, ranking);
+    for (size_t buffer = 0; buffer <= 30; buffer++) {
+        if (buffer != right) heard(256 + 8, image, buffer, "");
+    }
+    struct run bad = copy(image);
+    put_yield(bad, bad.len - right, 1000);
+    heard(256 + 4, bad, right, "");
+    give_back(bad);
+}
+
+static void try_rankings(void) {
+    for (int i = 0; i < RANKINGS; i++) {
+        doing = rankings[i].what;
+        struct run records = from_hex(rankings[i].by_stall);
+        struct run image = image_with(rankings[i].n, records);
+        list_and_refuse(image, (uint32_t)records.len / 3, rankings[i].ranking);
+        give_back(image);
+        give_back(records);
+    }
+    doing = "a list of one";
+    struct run alone = from_hex(form.alone);
+    list_and_refuse(alone, 1, "020012");
+    put_yield(alone, alone.len - 3 * 3 + 2, WILBRYN_NOT_MILKED);
+    list_and_refuse(alone, 1, "02ffff");
+    put_yield(alone, alone.len - 3 * 3 + 2, 0);
+    list_and_refuse(alone, 1, "020000");
+    give_back(alone);
 }
 
 /* The first of two heads that met has all four marks; then just those that check 6 demands, (1, 1),
@@ -315,18 +407,6 @@ static void try_settled(void) {
         settled(left, wanted[i]);
         give_back(left);
     }
-}
-
-struct parlour open_parlour(uint8_t n) {
-    struct parlour parlour = {.n = n};
-    for (uint8_t stall = 1; stall <= n; stall++) {
-        parlour.images[stall] = fresh_of(n, stall);
-    }
-    return parlour;
-}
-
-void shut_parlour(struct parlour parlour) {
-    for (uint8_t stall = 1; stall <= parlour.n; stall++) give_back(parlour.images[stall]);
 }
 
 /* The lists to try: pairs of stalls; of each meeting the label, the verdicts, and the counts that
@@ -449,6 +529,7 @@ void try_form(void) {
     try_fresh();
     try_milking();
     try_heard();
+    try_rankings();
     try_settled();
     try_lists();
     try_listing();

@@ -28,11 +28,11 @@ extern const struct form {
     __typeof__(wilbryn_fresh) *fresh;
     __typeof__(wilbryn_check) *check;
     __typeof__(wilbryn_milking) *milking;
-    __typeof__(wilbryn_heard) *heard;
-    reading *settled;
+    reading *heard, *settled;
     __typeof__(wilbryn_meeting) *meeting;
     const struct example *examples; /* the last has no image */
     const char *milked;             /* stall 1 of 2, fresh but for the yield 18 */
+    const char *alone;              /* stall 2 of 3, which has heard of itself alone, with 18 */
     const char *listing[3];         /* what the listing leaves, by stall */
     const char *apart[2];           /* two that do not belong together: the example of 9 */
 } form;
@@ -73,7 +73,8 @@ struct parlour {
 struct parlour open_parlour(uint8_t n);
 void shut_parlour(struct parlour parlour);
 
-/* Everything that the form's examples and document 01's lists say, with request 2026-05. */
+/* Everything that the form's examples and document 01's lists say, with requests 2026-05 and
+   2026-07. */
 void try_form(void);
 
 void print_counts(void);

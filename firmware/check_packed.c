@@ -1,5 +1,5 @@
-/* The examples of document 01 packed by hand as request 2026-04 says, and those of request 2026-05,
-   on the functions of wilbryn.h for packed images; and packing and unpacking. */
+/* The examples of document 01 packed by hand as request 2026-04 says, and those of requests 2026-05
+   and 2026-07, on the functions of wilbryn.h for packed images; and packing and unpacking. */
 #include "check_calls.h"
 
 #include <string.h>
@@ -87,6 +87,7 @@ const struct form form = {
     .meeting = wilbryn_packed_meeting,
     .examples = examples,
     .milked = "0201 0012 0020 0020 ffffffff 0000",
+    .alone = "0302 ffff 002040 000040 002040 ffff0012ffff 000200",
     .listing = {"0301 0012 200040 200040 002040 0012ffffffff 030300",
                 "0302 ffff 200040 204020 204020 0012ffffffff 070606",
                 "0303 ffff 200040 204020 204020 0012ffffffff 070606"},
@@ -200,6 +201,7 @@ static void try_room(void) {
            form.meeting(one.bytes, one.len, two.bytes, two.len, verdicts.bytes, verdicts.len), NULL,
            0);
     expect(HEARD, 2, form.heard(two.bytes, two.len, records.bytes, records.len), NULL, 0);
+    expect_hex("the records", "0803e7 01ffff 000000000000000000 000000000000000000", records);
     expect(SETTLED, 0, form.settled(two.bytes, two.len, counts.bytes, counts.len), NULL, 0);
     expect_hex("the counts", "0200000000000002", counts);
     expect(UNPACK, 0, wilbryn_unpack(one.bytes, one.len, image.bytes, image.len), NULL, 0);

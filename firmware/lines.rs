@@ -10,7 +10,7 @@ mod pairs;
 mod program;
 mod sessions;
 
-use answers::{answers, lines, Answer, Lines};
+use answers::{answers, lines, Answer, Lines, OF_HEARD};
 use images::Random;
 use program::{run_with_stops, Run};
 use std::process::exit;
@@ -38,7 +38,8 @@ struct Test {
     sessions: usize,
     lines: usize,
     by_number: [usize; 12],
-    dry_and_not_milked: usize,
+    /// How many heard lists showed each of these things.
+    of_heard: [usize; OF_HEARD.len()],
     /// Of the lines that ask what is settled: how often each number, and how often something was.
     settled_by_number: [usize; 12],
     settled: usize,
@@ -54,14 +55,16 @@ impl Test {
         self.lines += expected.len();
         for answer in expected {
             self.by_number[answer.number as usize] += 1;
-            self.dry_and_not_milked += answer.shows_dry_and_not_milked() as usize;
+            for (times, is_shown) in self.of_heard.iter_mut().zip(answer.shows_of_heard()) {
+                *times += is_shown as usize;
+            }
             self.settled_by_number[answer.number as usize] += answer.is_of_settled() as usize;
             self.settled += answer.shows_settled() as usize;
         }
     }
 
-    /// Ends the run if one of the numbers that a line can be answered never came up, or no heard list
-    /// had 0 beside not milked, or nothing was settled.
+    /// Ends the run if one of the numbers that a line can be answered never came up, or one of the
+    /// things that heard lists can show, or nothing was settled.
     fn print(&self) {
         println!("  {} sessions, {} lines; how often each number:", self.sessions, self.lines);
         for (number, count) in self.by_number.iter().enumerate().filter(|(_, &count)| count > 0) {
@@ -70,9 +73,11 @@ impl Test {
         if let Some(number) = [0, 1, 3, 4, 7, 10, 11].iter().find(|&&n| self.by_number[n] == 0) {
             self.fail("all sessions", &format!("number {number} never came up"));
         }
-        println!("  {} heard lists with 0 beside not milked", self.dry_and_not_milked);
-        if self.dry_and_not_milked == 0 {
-            self.fail("all sessions", "0 beside not milked never came up");
+        for (what, times) in OF_HEARD.iter().zip(self.of_heard) {
+            println!("  {times} heard lists with {what}");
+            if times == 0 {
+                self.fail("all sessions", &format!("{what} never came up"));
+            }
         }
         self.print_settled();
         println!("  no difference");
@@ -92,7 +97,7 @@ impl Test {
         let mut written = output.split_inclusive(|&c| c == b'\n');
         for (at, (line, answer)) in lines(input).zip(expected).enumerate() {
             let found = written.next().unwrap_or(b"");
-            if !found.strip_suffix(b"\n").is_some_and(|found| answer.fits(found)) {
+            if found.strip_suffix(b"\n") != Some(&answer.text) {
                 let [line, found, text] = [line, found, &answer.text].map(shown);
                 self.fail(
                     name,
@@ -177,7 +182,7 @@ impl Test {
         }
         for (time, written) in written.chunks(count).enumerate() {
             let round = &rounds[time.min(1)];
-            if !round.iter().zip(written).all(|(answer, written)| answer.fits(written)) {
+            if !round.iter().zip(written).all(|(answer, written)| answer.text == *written) {
                 self.fail(
                     name,
                     &format!("wrong answers to the input when given {time} times before"),
@@ -197,7 +202,7 @@ fn rounds(input: &[u8], times: usize) -> Vec<Vec<Answer>> {
     let mut round = || lines(input).map(|line| parlour.answer(line)).collect();
     let rounds: Vec<Vec<Answer>> = (0..times.min(3)).map(|_| round()).collect();
     if let [_, second, third] = &rounds[..] {
-        assert!(second.iter().zip(third).all(|(answer, again)| answer.fits(&again.text)));
+        assert!(second.iter().zip(third).all(|(answer, again)| answer.text == again.text));
     }
     rounds
 }
@@ -298,7 +303,7 @@ fn main() {
         sessions: 0,
         lines: 0,
         by_number: [0; 12],
-        dry_and_not_milked: 0,
+        of_heard: [0; OF_HEARD.len()],
         settled_by_number: [0; 12],
         settled: 0,
     };

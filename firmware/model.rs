@@ -1,7 +1,8 @@
-//! Document 01 with requests 2026-01, 2026-02, 2026-04 and 2026-05 in plain Rust: the other side of
-//! every comparison.
+//! Document 01 with requests 2026-01, 2026-02, 2026-04, 2026-05 and 2026-07 in plain Rust: the
+//! other side of every comparison.
 //! Stalls, rows and columns count from 1 as they do there, so index 0 of each array is unused.
 
+use std::cmp::Reverse;
 use std::ops::RangeInclusive;
 
 /// The most that a milking may bring.
@@ -153,6 +154,18 @@ impl Table {
         self.own_row()[r] != NONE
     }
 
+    /// The heard stalls in ranking order. Request 2026-07: "The records now come with the largest
+    /// yield first, equal yields by lower stall number, and heard but not milked last, again by
+    /// stall number".
+    fn ranking(&self) -> Vec<usize> {
+        let heard = self.stalls().filter(|&r| self.heard(r));
+        let (mut milked, mut not_milked): (Vec<usize>, Vec<usize>) =
+            heard.partition(|&r| self.yields[r] != NOT_MILKED);
+        milked.sort_by_key(|&r| (Reverse(self.yields[r]), r));
+        not_milked.sort();
+        [milked, not_milked].concat()
+    }
+
     pub fn mark(&self, r: usize, s: usize) -> bool {
         self.order[r] >> (s - 1) & 1 == 1
     }
@@ -269,7 +282,8 @@ impl Form {
         }
     }
 
-    /// Writes the records by rising stall; the document leaves their order open.
+    /// Document 01: "writes, for each heard stall, the stall byte and two yield bytes, then zeros to
+    /// the end, and returns how many". Request 2026-07: "No choice of order is left".
     pub fn heard(self, image: &[u8], records: &mut [u8]) -> u32 {
         let table = match self.read(image) {
             Err(number) => return 256 + number,
@@ -279,12 +293,12 @@ impl Form {
             return 256 + 8;
         }
         records.fill(0);
-        let heard: Vec<usize> = table.stalls().filter(|&r| table.heard(r)).collect();
-        for (record, &r) in records.chunks_mut(3).zip(&heard) {
+        let ranking = table.ranking();
+        for (record, &r) in records.chunks_mut(3).zip(&ranking) {
             let [high, low] = table.yields[r].to_be_bytes();
             record.copy_from_slice(&[r as u8, high, low]);
         }
-        heard.len() as u32
+        ranking.len() as u32
     }
 
     /// Request 2026-05: "for each stall the number of stalls that this head knows to have heard its

@@ -3,10 +3,10 @@
 use crate::images::{Random, EDGES};
 use crate::pairs::{next_pair, Way, WAYS};
 
-/// Document 01's listing and its examples of lines, and what requests 2026-01 and 2026-05 say of
-/// lines: input and output. In the listing heads 2 and 3 know that all have heard of the meeting of
-/// 1 and 2.
-pub const EXAMPLES: [(&str, &str); 13] = [
+/// Document 01's listing and its examples of lines, and what requests 2026-01, 2026-05 and 2026-07
+/// say of lines: input and output. In the listing heads 2 and 3 know that all have heard of the
+/// meeting of 1 and 2.
+pub const EXAMPLES: [(&str, &str); 15] = [
     (
         "0103\n02010012\n030102\n030203\n0403\n",
         "00\n00\n0000000000\n0000010100\n\
@@ -33,6 +33,15 @@ pub const EXAMPLES: [(&str, &str); 13] = [
     ),
     ("0601\n06\n060101\n0701\n", "0b\n0a\n0a\n0a\n"),
     ("0103\n0600\n0604\n06ff\n06\n0603ff\n0703\n", "00\n03\n03\n03\n0a\n0a\n0a\n"),
+    (
+        "0103\n02020000\n02030012\n030102\n0501\n030103\n0501\n0502\n",
+        "00\n00\n00\n0000000000\n000202000001ffff\n0000010100\n\
+         000303001202000001ffff\n000202000001ffff\n",
+    ),
+    (
+        "0103\n02010007\n02020012\n02030012\n030102\n030203\n0503\n",
+        "00\n00\n00\n00\n0000000000\n0000010100\n0003020012030012010007\n",
+    ),
 ];
 
 /// Lines to a parlour of n heads.

@@ -72,8 +72,10 @@ uint32_t wilbryn_milking(uint8_t *image, size_t len, uint16_t yield);
 
 /* Writes a record for each stall that the head has heard of, itself included: the stall byte and
    its yield, WILBRYN_NOT_MILKED if its latest meeting came before its first milking; then zeros to
-   the end. A caller can conclude nothing from the order of the records. Answers how many there are,
-   or 256 plus 1 to 6 for the image, then 256 + 8 if records_len is not 3 * N. */
+   the end. The records come in ranking order: the largest yield first, of equal yields that of the
+   lower stall first, and those not milked last, again by rising stall. So the same stalls with the
+   same yields give the same bytes. Answers how many there are, or 256 plus 1 to 6 for the image,
+   then 256 + 8 if records_len is not 3 * N. */
 uint32_t wilbryn_heard(const uint8_t *image, size_t len, uint8_t *records, size_t records_len);
 
 /* Writes for each stall how many stalls this head knows to have heard its latest meeting of that
@@ -108,8 +110,8 @@ uint32_t wilbryn_pack(const uint8_t *image, size_t len, uint8_t *packed, size_t 
 uint32_t wilbryn_unpack(const uint8_t *packed, size_t packed_len, uint8_t *image, size_t len);
 
 /* The calls above on packed images. Each answers what the call above answers to the unpacked ones,
-   and leaves the same verdicts and counts, the same records in some order, and the packed form of
-   the images that that call leaves. */
+   and leaves the same verdicts, counts and records, and the packed form of the images that that
+   call leaves. */
 
 /* Writes the packed form of the fresh image. Answers 0, or 1 for n, 2 for packed_len, 3 for stall,
    tried in this order. */
