@@ -1,13 +1,16 @@
 //! Compares the library's fresh, check, milking, heard and settled with the model, on images of
-//! every kind.
+//! every kind, and heard lists of every order.
 
 #[allow(dead_code)]
 mod calls;
+mod heard;
 #[allow(dead_code)]
 mod images;
 #[allow(dead_code)]
 mod model;
 mod singles;
+#[allow(dead_code)]
+mod tally;
 
 use calls::{share_of, Counts, Labels, PLAIN};
 use images::{edge_labels, twin, Random, EDGES};
@@ -165,6 +168,7 @@ fn main() {
     let tried = labels(&mut random, &mut counts, share_of(50).max(1));
     neighbours(&mut random, &mut counts, share_of(8).max(1));
     all_yields(&mut counts);
+    heard::compare(&mut random, &PLAIN, &mut counts, share_of(100));
     counts.print();
     counts.require("fresh", 0..=3);
     counts.require("check", 0..=6);

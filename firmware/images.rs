@@ -78,7 +78,7 @@ impl Random {
     }
 
     /// A yield that an accepted image may have, its current one or a heard stall's.
-    fn image_yield(&mut self) -> u16 {
+    pub fn image_yield(&mut self) -> u16 {
         if self.percent(20) {
             NOT_MILKED
         } else {
@@ -170,6 +170,18 @@ pub fn accepted(random: &mut Random, n: usize, stall: usize) -> Table {
     let mut table = with_own_row(random, n, stall, &style);
     if random.percent(5) {
         table.rows[stall] = [NONE; 9];
+    }
+    fill(random, &mut table, &style);
+    table
+}
+
+/// An accepted image from no list of a head that has heard of just these stalls, its own among them
+/// unless there are none.
+pub fn that_heard(random: &mut Random, n: usize, stall: usize, heard: &[usize]) -> Table {
+    let style = style(random, n);
+    let mut table = Table::fresh(n, stall);
+    for &r in heard {
+        table.rows[stall][r] = name(random, n, r, style.labels);
     }
     fill(random, &mut table, &style);
     table

@@ -4,6 +4,7 @@ use crate::calls::{hex, Outcome, Run};
 use crate::images::Random;
 use crate::pairs::{next_pair, WAYS};
 use crate::parlour::{Parlour, Seen};
+use crate::tally::LONG;
 
 /// A call of a list. A meeting has a verdict buffer of so many bytes; what is in them is drawn anew
 /// each time that the call is made.
@@ -85,9 +86,6 @@ impl Item {
         outcome
     }
 }
-
-/// How many items a long list has at least.
-pub const LONG: usize = 200;
 
 /// The items of a list, all of which count. In one round of 20 it is long.
 pub fn draw_round(random: &mut Random, n: usize, round: usize) -> Vec<Item> {

@@ -1,8 +1,9 @@
-//! Compares the library's calls on packed images with the model, on images of every kind, and heads
-//! that are packed with heads that are not.
+//! Compares the library's calls on packed images with the model, on images of every kind, heard
+//! lists of every order, and heads that are packed with heads that are not.
 
 #[allow(dead_code)]
 mod calls;
+mod heard;
 #[allow(dead_code)]
 mod images;
 #[allow(dead_code)]
@@ -14,6 +15,8 @@ mod pairs;
 #[allow(dead_code)]
 mod parlour;
 mod singles;
+#[allow(dead_code)]
+mod tally;
 
 use calls::{hex, share_of, Outcome, PLAIN};
 use images::{twin, Random};
@@ -303,6 +306,11 @@ fn damaged(random: &mut Random, test: &mut Test, steps: usize) {
     }
 }
 
+/// Heard lists of every order: so many in a hundred of them.
+fn heard_lists(random: &mut Random, test: &mut Test, percent: usize) {
+    heard::compare(random, &PACKED, &mut test.packed.counts, percent);
+}
+
 /// Each call was accepted, and refused in each way that it can be; each verdict came up, and the
 /// highest labels.
 fn require(test: &Test) {
@@ -334,7 +342,7 @@ fn require(test: &Test) {
 
 fn main() {
     let mut test = Test { plain: Seen::new(&PLAIN), packed: Seen::new(&PACKED) };
-    let parts: [(&str, u64, usize, fn(&mut Random, &mut Test, usize)); 7] = [
+    let parts: [(&str, u64, usize, fn(&mut Random, &mut Test, usize)); 8] = [
         ("side by side", 0x5eed_0031, share_of(300), side_by_side),
         ("from no list", 0x5eed_0032, share_of(60_000), from_no_list),
         ("of any kind", 0x5eed_0033, share_of(100_000), of_any_kind),
@@ -342,6 +350,7 @@ fn main() {
         ("all bytes", 0x5eed_0035, share_of(256), all_bytes),
         ("lengths", 0x5eed_0036, share_of(256), lengths),
         ("damaged", 0x5eed_0037, share_of(100_000), damaged),
+        ("heard lists", 0x5eed_0038, share_of(100), heard_lists),
     ];
     for (kind, seed, share, part) in parts {
         println!("packed: {kind}: seed {seed:#x}");

@@ -22,11 +22,11 @@ mod tally;
 use calls::{share_of, Calls, PLAIN};
 use history::{History, Pasts};
 use images::Random;
-use lists::{Item, LONG};
+use lists::Item;
 use model::Meeting;
 use packed_calls::PACKED;
 use parlour::{buffer, Parlour, Seen};
-use tally::{Tally, LONG_LISTS};
+use tally::{Tally, LONG, LONG_LISTS};
 
 /// What is counted and required. A number is how many stalls a head knows to have heard its latest
 /// of one stall.

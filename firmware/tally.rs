@@ -1,9 +1,11 @@
-//! How often things came up in lists, and what must have come up.
+//! How often things came up, by number of heads, and what must have come up.
 
-use crate::lists::LONG;
 use std::collections::BTreeMap;
 use std::ops::RangeInclusive;
 use std::process::exit;
+
+/// How many items a long list has at least.
+pub const LONG: usize = 200;
 
 pub const LONG_LISTS: &str = "lists: long";
 
