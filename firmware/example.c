@@ -1,6 +1,6 @@
 /* The heads of a parlour of three over wilbryn.h: two meet before and after the second is milked,
    and say what they then hold. Head 3 is out of range, so neither hears of it; once it has met head
-   1, that can say which yield all have heard. */
+   1, that can rank all stalls and say which yield all have heard. */
 #include "wilbryn.h"
 
 #include <stdio.h>
@@ -60,17 +60,13 @@ static void show_record(const uint8_t *record) {
     }
 }
 
-/* The records come in any order, so they are put by stall before they are shown. */
+/* The records come with the largest yield first, so they are shown as they come. */
 static void show(const struct head *head) {
     uint8_t records[3 * STALLS];
-    const uint8_t *of_stall[STALLS] = {NULL};
-    uint32_t answer = wilbryn_heard(head->image, sizeof head->image, records, sizeof records);
-    must(answer < WILBRYN_REFUSED, "a heard list", answer);
-    for (const uint8_t *r = records; r < records + 3 * answer; r += 3) of_stall[r[0] - 1] = r;
-    printf("head %d has heard of %u stalls\n", head->image[1], answer);
-    for (int i = 0; i < STALLS; i++) {
-        if (of_stall[i] != NULL) show_record(of_stall[i]);
-    }
+    uint32_t count = wilbryn_heard(head->image, sizeof head->image, records, sizeof records);
+    must(count < WILBRYN_REFUSED, "a heard list", count);
+    printf("head %d has heard of %u stalls\n", head->image[1], count);
+    for (uint32_t i = 0; i < count; i++) show_record(records + 3 * i);
 }
 
 /* What the parlour computer asks before it drops old yields. */
@@ -100,7 +96,10 @@ int main(void) {
     meet(&two, &one);
     show(&one);
     show_settled(&one);
+    milk(&three, 217);
     meet(&one, &three);
+    /* Stall 3 gave the most and comes first. */
+    show(&one);
     /* Head 2 has not heard of this meeting yet, so of stalls 1 and 3 only two have. */
     show_settled(&one);
     return 0;

@@ -58,16 +58,14 @@ static void show_yield(int stall, unsigned yield) {
     }
 }
 
-/* The records come in any order: here they are shown by stall. */
+/* The records come with the largest yield first and those not milked last. */
 static void show_heard(int stall) {
     uint8_t records[3 * STALLS];
     uint32_t count = wilbryn_packed_heard(table_of(stall), STORED, records, sizeof records);
     must(count < WILBRYN_REFUSED, "a heard list", count);
     printf("head %d has heard of %u stalls\n", stall, count);
-    for (int r = 1; r <= STALLS; r++) {
-        for (const uint8_t *at = records; at < records + 3 * count; at += 3) {
-            if (at[0] == r) show_yield(r, at[1] * 256u + at[2]);
-        }
+    for (const uint8_t *at = records; at < records + 3 * count; at += 3) {
+        show_yield(at[0], at[1] * 256u + at[2]);
     }
 }
 
