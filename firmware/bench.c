@@ -1,10 +1,10 @@
-/* Times the check, what is settled and the meeting of wilbryn.h against the plain and the expert
-   version on the same images, then those on packed images against the plain version and against
-   wilbryn.h's own on the unpacked ones; and measures the stack that they touch. What writes is timed
-   on copies, the check on images where they lie, as at a start-up. Then it times a start-up: the
-   check of 10,000 stored images of 8 heads, plain and packed. Where the checks of an earlier landing
-   are linked in as before_check and before_packed_check, the checks are timed against these too, in
-   the same rounds. */
+/* Times the check, the heard list, what is settled and the meeting of wilbryn.h against the plain
+   and the expert version on the same images, then those on packed images against the plain version
+   and against wilbryn.h's own on the unpacked ones; and measures the stack that they touch. What
+   writes is timed on copies, the check on images where they lie, as at a start-up. Then it times a
+   start-up: the check of 10,000 stored images of 8 heads, plain and packed. Where the checks of an
+   earlier landing are linked in as before_check and before_packed_check, the checks are timed
+   against these too, in the same rounds. */
 #define _XOPEN_SOURCE 700
 #include "wilbryn.h"
 
@@ -16,10 +16,10 @@
 
 extern __typeof__(wilbryn_fresh) plain_fresh;
 extern __typeof__(wilbryn_milking) plain_milking;
-extern __typeof__(wilbryn_heard) plain_heard;
 extern __typeof__(wilbryn_pack) plain_pack;
 extern __typeof__(wilbryn_unpack) plain_unpack;
 extern __typeof__(wilbryn_check) plain_check, expert_check, plain_packed_check;
+extern __typeof__(wilbryn_heard) plain_heard, expert_heard, plain_packed_heard;
 extern __typeof__(wilbryn_settled) plain_settled, expert_settled, plain_packed_settled;
 extern __typeof__(wilbryn_meeting) plain_meeting, expert_meeting, plain_packed_meeting;
 
@@ -33,20 +33,21 @@ struct version {
     const char *name;
     enum form form;
     __typeof__(wilbryn_check) *check;
+    __typeof__(wilbryn_heard) *heard;
     __typeof__(wilbryn_settled) *settled;
     __typeof__(wilbryn_meeting) *meeting;
 };
 
 static const struct version
-    plain = {"plain", UNPACKED, plain_check, plain_settled, plain_meeting},
-    expert = {"expert", UNPACKED, expert_check, expert_settled, expert_meeting},
-    before = {"before", UNPACKED, before_check, NULL, NULL},
-    wilbryn = {"wilbryn", UNPACKED, wilbryn_check, wilbryn_settled, wilbryn_meeting},
-    plain_packed = {"plain", PACKED, plain_packed_check, plain_packed_settled,
+    plain = {"plain", UNPACKED, plain_check, plain_heard, plain_settled, plain_meeting},
+    expert = {"expert", UNPACKED, expert_check, expert_heard, expert_settled, expert_meeting},
+    before = {"before", UNPACKED, before_check, NULL, NULL, NULL},
+    wilbryn = {"wilbryn", UNPACKED, wilbryn_check, wilbryn_heard, wilbryn_settled, wilbryn_meeting},
+    plain_packed = {"plain", PACKED, plain_packed_check, plain_packed_heard, plain_packed_settled,
                     plain_packed_meeting},
-    before_packed = {"before", PACKED, before_packed_check, NULL, NULL},
-    wilbryn_packed = {"packed", PACKED, wilbryn_packed_check, wilbryn_packed_settled,
-                      wilbryn_packed_meeting};
+    before_packed = {"before", PACKED, before_packed_check, NULL, NULL, NULL},
+    wilbryn_packed = {"packed", PACKED, wilbryn_packed_check, wilbryn_packed_heard,
+                      wilbryn_packed_settled, wilbryn_packed_meeting};
 
 /* Of the versions that are compared, the last is measured against the others. */
 enum { VERSIONS = 4 };
@@ -73,9 +74,9 @@ static unsigned below(unsigned limit) {
 }
 
 /* What the calls are lent, for each form and N: two heads of one parlour just before a meeting, and
-   a buffer of N bytes in which no verdict and no count stands. */
+   a buffer for verdicts, counts or records, in which none stands. */
 static struct lent {
-    uint8_t first[LONGEST], second[LONGEST], output[MOST];
+    uint8_t first[LONGEST], second[LONGEST], output[3 * MOST];
 } pairs_of[FORMS][MOST + 1][PAIRS], work;
 
 /* Images of the most heads, one behind the other. */
@@ -162,6 +163,7 @@ typedef uint32_t call(void);
 
 static uint32_t nothing(void) { return 0; }
 static uint32_t check(void) { return version->check(image, len); }
+static uint32_t heard(void) { return version->heard(work.first, len, work.output, 3 * n); }
 static uint32_t settled(void) { return version->settled(work.first, len, work.output, n); }
 static uint32_t meeting(void) {
     return version->meeting(work.first, len, work.second, len, work.output, n);
@@ -446,9 +448,11 @@ int main(void) {
     }
     make_stored();
     compare("check", on_images, run_in_place, check);
+    compare("heard", on_images, run_pairs, heard);
     compare("settled", on_images, run_pairs, settled);
     compare("meeting", on_images, run_pairs, meeting);
     compare("packed check; wilbryn: that of the unpacked images", on_packed, run_in_place, check);
+    compare("packed heard; wilbryn: that of the unpacked images", on_packed, run_pairs, heard);
     compare("packed settled; wilbryn: that of the unpacked images", on_packed, run_pairs, settled);
     compare("packed meeting; wilbryn: that of the unpacked images", on_packed, run_pairs, meeting);
     if (before_check != NULL) compare("check, since before", since_before, run_in_place, check);
