@@ -4,16 +4,17 @@ use mathlib.Core.Path.{_≡_, refl, sym, ap, ap₂, subst, _∙_}
 use mathlib.Core.List.{List}
 use lib.ListN.{length, getD}
 use Rattle.image.specs.Frame.{Sized}
+use Rattle.image.specs.Check.{checked}
 use Rattle.image.specs.declared.Checked.{Checked}
 use Rattle.image.specs.declared.Checked.the-variants.{Good, Refused}
 use Rattle.image.proofs.Accepted.{Accepted}
 use Rattle.merge.specs.Call.{MeetingOutcome, meetingCall}
 use Rattle.merge.proofs.meeting.Outcomes.{kept}
-use Rattle.head.specs.Heard.{HeardFrom, HeardCall}
+use Rattle.head.specs.Heard.{heardFrom, heardCall}
 use Rattle.head.specs.Settled.{settledFrom, settledCall}
 use Rattle.packed.specs.Form.{packedImageLength, packed, unpacked}
 use Rattle.packed.specs.Check.{packedChecked}
-use Rattle.packed.specs.Calls.{PackedHeardCall, packedSettledCall, packedMeetingCall}
+use Rattle.packed.specs.Calls.{packedHeardCall, packedSettledCall, packedMeetingCall}
 use Rattle.packed.specs.Bytes.{packedOf, plainOf}
 use Rattle.packed.proofs.Small.{Small}
 use Rattle.packed.proofs.Forms.{packed-is}
@@ -21,25 +22,23 @@ use Rattle.packed.proofs.Checks.{checked-unpacked, checked-plain, good-
 use Rattle.packed.proofs.MetAlike.{Alike, met-alike, After, meeting-after}
 use Rattle.packed.proofs.MetPacked.{after-taken, after-kept}
 
--- The heard list
+-- What goes by the check of an image and looks at accepted ones alone: the heard list, and the numbers
 
-pub heard-handed : {s buffer out : List ℕ} {answer : ℕ} → HeardCall (plainOf s) buffer answer out → PackedHeardCall s buffer answer out
-heard-handed {s} {buffer} {out} {answer} w =
-    record { heard = go (packedChecked s) refl (subst (HeardFrom (plainOf s) buffer answer out) (checked-plain s) (w .heard)) }
+by-plain : (s : List ℕ) {A : Type 0} (from : List ℕ → Checked → A) → ((k : ℕ) → from (plainOf s) (Refused k) ≡ from (unpacked s) (Refused k))
+    → from (plainOf s) (checked (plainOf s)) ≡ from (unpacked s) (packedChecked s)
+by-plain s from refused = ap (from (plainOf s)) (checked-plain s) ∙ go (packedChecked s) refl
   where
-    go : (x : Checked) → packedChecked s ≡ x → HeardFrom (plainOf s) buffer answer out x → HeardFrom (unpacked s) buffer answer out x
-    go (Good h) e v = subst (λ l. HeardFrom l buffer answer out (Good h)) (good-packed s e .plain) v
-    go (Refused number) e v = v
+    go : (x : Checked) → packedChecked s ≡ x → from (plainOf s) x ≡ from (unpacked s) x
+    go (Good h) e = ap (λ l. from l (Good h)) (good-packed s e .plain)
+    go (Refused number) e = refused number
 
--- The numbers
+pub heard-handed : (s buffer : List ℕ) → heardCall (plainOf s) buffer ≡ packedHeardCall s buffer
+unfolding heardFrom
+heard-handed s buffer = by-plain s (λ l. heardFrom l buffer) (λ k. refl)
 
 pub settled-handed : (s buffer : List ℕ) → settledCall (plainOf s) buffer ≡ packedSettledCall s buffer
 unfolding settledFrom
-settled-handed s buffer = ap (settledFrom (plainOf s) buffer) (checked-plain s) ∙ go (packedChecked s) refl
-  where
-    go : (x : Checked) → packedChecked s ≡ x → settledFrom (plainOf s) buffer x ≡ settledFrom (unpacked s) buffer x
-    go (Good h) e = ap (λ l. settledFrom l buffer (Good h)) (good-packed s e .plain)
-    go (Refused number) e = refl
+settled-handed s buffer = by-plain s (λ l. settledFrom l buffer) (λ k. refl)
 
 -- A meeting: the plain one of what is handed leaves x, y and v
 

@@ -1,7 +1,6 @@
 -- The laws of `specs/Theory.antt` hold of every list.
 use Prim.Native.Nat.{ℕ}
-use mathlib.Core.Path.{_≡_, sym, ap, subst, _∙_}
-use mathlib.Core.Logic.{_↔_}
+use mathlib.Core.Path.{_≡_, sym, ap, _∙_}
 use mathlib.Core.List.{List}
 use Rattle.image.specs.Encode.{tableOf}
 use Rattle.image.specs.Check.{checked}
@@ -10,12 +9,12 @@ use Rattle.image.proofs.Accepted.{accepted, checked-accepted}
 use Rattle.image.proofs.AcceptedMade.{accepted-made}
 use Rattle.image.proofs.MadeAccepted.{made-accepted}
 use Rattle.merge.proofs.Theory as merge
-use Rattle.head.specs.Heard.{HeardFrom, HeardCall}
+use Rattle.head.specs.Heard.{heardFrom}
 use Rattle.head.specs.Settled.{settledFrom}
 use Rattle.head.proofs.Theory as head
 use Rattle.packed.specs.Form.{packed, unpacked}
 use Rattle.packed.specs.Check.{packedChecked}
-use Rattle.packed.specs.Calls.{packedMilkingCall, PackedHeardCall, packedMeetingCall}
+use Rattle.packed.specs.Calls.{packedMilkingCall, packedMeetingCall}
 use Rattle.packed.specs.Theory.{PackedPasses, Theory}
 use Rattle.packed.proofs.Forms.{packed-encodes, packed-unpacked}
 use Rattle.packed.proofs.Unpacked.{unpacked-packed}
@@ -34,11 +33,6 @@ packed-checked s n own e =
     ∙ ap checked (packed-encodes w)
     ∙ checked-accepted (made-accepted n own (tableOf s n) (f .n-from) (f .n-to) (f .own-from) (f .own-to) (accepted-made w))
 
-heard-same : (s buffer : List ℕ) (answer : ℕ) (out : List ℕ) → PackedHeardCall s buffer answer out ↔ HeardCall (unpacked s) buffer answer out
-heard-same s buffer answer out =
-    let e = checked-unpacked s in
-    (λ w. record { heard = subst (HeardFrom (unpacked s) buffer answer out) (sym e) (w .heard) }, λ w. record { heard = subst (HeardFrom (unpacked s) buffer answer out) e (w .heard) })
-
 -- lists whose unpacked forms are checked alike are checked alike
 checked-alike : (s out : List ℕ) {plain : List ℕ} → unpacked out ≡ plain → checked plain ≡ checked (unpacked s) → packedChecked out ≡ packedChecked s
 checked-alike s out e f = sym (checked-unpacked out) ∙ ap checked e ∙ f ∙ checked-unpacked s
@@ -56,7 +50,7 @@ theory =
       fresh-zero = fresh-zero;
       fresh-refused = fresh-refused;
       milking-same = milking-same;
-      heard-same = heard-same;
+      heard-same = λ s buffer. ap (heardFrom (unpacked s) buffer) (sym (checked-unpacked s));
       settled-same = λ s buffer. ap (settledFrom (unpacked s) buffer) (sym (checked-unpacked s));
       meeting-same = meeting-same;
       milking-refused = milking-refused;

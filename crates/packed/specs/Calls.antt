@@ -12,7 +12,7 @@ use Rattle.image.specs.declared.Checked.{Checked}
 use Rattle.image.specs.declared.Checked.the-variants.{Good, Refused}
 use Rattle.merge.specs.Call.{MeetingOutcome, meetingCall}
 use Rattle.head.specs.Calls.{Outcome, refused, accepted, freshInto, milked}
-use Rattle.head.specs.Heard.{HeardFrom}
+use Rattle.head.specs.Heard.{HeardOutcome, heardFrom}
 use Rattle.head.specs.Settled.{Settled, settledFrom}
 use Rattle.packed.specs.Form.{packedLength, packedImage, packed, unpacked}
 use Rattle.packed.specs.Check.{packedChecked}
@@ -38,8 +38,8 @@ abbrev pub packedMilkingCall : List ℕ → ℕ → Outcome
 packedMilkingCall s yield = milked s yield (packedChecked s)
 
 -- the heard list: that of the unpacked form
-pub record PackedHeardCall (s buffer : List ℕ) (answer : ℕ) (out : List ℕ) : Type 0 where
-  pub heard : HeardFrom (unpacked s) buffer answer out (packedChecked s)
+abbrev pub packedHeardCall : List ℕ → List ℕ → HeardOutcome
+packedHeardCall s buffer = heardFrom (unpacked s) buffer (packedChecked s)
 
 -- who has heard it all (request 2026-05): the numbers of the unpacked form
 abbrev pub packedSettledCall : List ℕ → List ℕ → Settled

@@ -1,7 +1,6 @@
 -- What callers may use of packed images, as one record with a field for each law. `proofs/Theory.antt` proves it: of every list of numbers, where nothing else is said.
 use Prim.Native.Nat.{ℕ, _+_, _/_, _%_, _≤_, _<_}
 use mathlib.Core.Path.{_≡_}
-use mathlib.Core.Logic.{_↔_}
 use mathlib.Core.Bool.{false}
 use mathlib.Core.List.{List}
 use lib.Dec.{eqb}
@@ -14,11 +13,11 @@ use Rattle.image.specs.Theory.{Passes}
 use Rattle.image.specs.declared.Checked.the-variants.{Good, Refused}
 use Rattle.merge.specs.Call.{meetingCall}
 use Rattle.head.specs.Calls.{Outcome, freshCall, milkingCall}
-use Rattle.head.specs.Heard.{HeardCall}
+use Rattle.head.specs.Heard.{heardCall}
 use Rattle.head.specs.Settled.{settledCall}
 use Rattle.packed.specs.Form.{labels, packedLength, packedPlace, packedImage, packed, unpacked}
 use Rattle.packed.specs.Check.{badPackedLength, packedChecked}
-use Rattle.packed.specs.Calls.{packedFreshCall, packedMilkingCall, PackedHeardCall, packedSettledCall, packedMeetingCall}
+use Rattle.packed.specs.Calls.{packedFreshCall, packedMilkingCall, packedHeardCall, packedSettledCall, packedMeetingCall}
 
 -- the packed image passes, as that of the head at stall own of n heads
 abbrev pub PackedPasses : List ℕ → ℕ → ℕ → Type 0
@@ -47,8 +46,8 @@ pub record Theory : Type 0 where
   -- "Meeting, milking and list on packed tables must equal those on the plain ones." A milking has the same answer, and leaves what unpacks to the plain image;
   pub milking-same : (s : List ℕ) (yield : ℕ) → let o = packedMilkingCall s yield in let m = milkingCall (unpacked s) yield in
       (o .answer ≡ m .answer) × (unpacked (o .image) ≡ m .image)
-  -- "list" is the heard list: what the call may answer and write is what the plain one may;
-  pub heard-same : (s buffer : List ℕ) (answer : ℕ) (out : List ℕ) → PackedHeardCall s buffer answer out ↔ HeardCall (unpacked s) buffer answer out
+  -- "list" is the heard list: what the call answers and writes is what the plain one does;
+  pub heard-same : (s buffer : List ℕ) → packedHeardCall s buffer ≡ heardCall (unpacked s) buffer
   -- the numbers of request 2026-05 are those of the unpacked form, and so is what refuses them;
   pub settled-same : (s buffer : List ℕ) → packedSettledCall s buffer ≡ settledCall (unpacked s) buffer
   -- a meeting has the same answer and verdicts, and leaves what unpacks to the two plain images.

@@ -3,10 +3,11 @@ ghost use mathlib.Core.Path.{_≡_};
 ghost use Rattle.image.specs.Check.{numberOf};
 ghost use Rattle.merge.specs.Call.{MeetingOutcome};
 ghost use Rattle.head.specs.Calls.{Outcome};
+ghost use Rattle.head.specs.Heard.{HeardOutcome};
 ghost use Rattle.head.specs.Settled.{Settled};
 ghost use Rattle.packed.specs.Form.{packedLength};
 ghost use Rattle.packed.specs.Check.{packedChecked};
-ghost use Rattle.packed.specs.Calls.{packCall, unpackCall, packedFreshCall, packedMilkingCall, PackedHeardCall, packedSettledCall, packedMeetingCall};
+ghost use Rattle.packed.specs.Calls.{packCall, unpackCall, packedFreshCall, packedMilkingCall, packedHeardCall, packedSettledCall, packedMeetingCall};
 use crate::pack::pack_image;
 use crate::plain::check_into;
 use crate::plain::heard_into;
@@ -129,7 +130,7 @@ pub extern "C" fn wilbryn_packed_milking(packed: &mut [u8], given: u16) -> u32
 // The heard stalls of a packed table with their yields.
 #[no_mangle]
 pub extern "C" fn wilbryn_packed_heard(packed: &[u8], records: &mut [u8]) -> u32
-    ensures { λ r. ⌜ PackedHeardCall (now (packed .entry)) (now (records .entry)) r (now (records .exit)) ⌝ }
+    ensures { λ r. ⌜ _≡_ {A = HeardOutcome} (record { answer = r; records = now (records .exit) }) (packedHeardCall (now (packed .entry)) (now (records .entry))) ⌝ }
 {
     let mut image = room();
     let count = plain_length(packed);

@@ -4,10 +4,11 @@ ghost use lib.ListN.{length, getD};
 ghost use Rattle.image.specs.Layout.{longest};
 ghost use Rattle.image.specs.Frame.{Sized};
 ghost use Rattle.merge.specs.Call.{MeetingOutcome};
+ghost use Rattle.head.specs.Heard.{HeardOutcome};
 ghost use Rattle.head.specs.Settled.{Settled};
 ghost use Rattle.packed.specs.Form.{packedImageLength};
 ghost use Rattle.packed.specs.Check.{packedChecked};
-ghost use Rattle.packed.specs.Calls.{PackedHeardCall, packedSettledCall, packedMeetingCall};
+ghost use Rattle.packed.specs.Calls.{packedHeardCall, packedSettledCall, packedMeetingCall};
 ghost use Rattle.packed.specs.Bytes.{packedOf, plainOf};
 use crate::pack::pack_image;
 use crate::unpack::unpack_into;
@@ -34,7 +35,7 @@ pub(crate) fn check_into(packed: &[u8], image: &mut [u8]) -> Checked
 // The heard list.
 pub(crate) fn heard_into(packed: &[u8], image: &mut [u8], records: &mut [u8]) -> u32
     requires { ⌜ length (now image) ≡ length (plainOf (now packed)) ⌝ }
-    ensures { λ r. ⌜ PackedHeardCall (now (packed .entry)) (now (records .entry)) r (now (records .exit)) ⌝ }
+    ensures { λ r. ⌜ _≡_ {A = HeardOutcome} (record { answer = r; records = now (records .exit) }) (packedHeardCall (now (packed .entry)) (now (records .entry))) ⌝ }
 {
     unpack_into(packed, image);
     head::wilbryn_heard(image, records)

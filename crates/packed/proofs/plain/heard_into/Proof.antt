@@ -1,7 +1,7 @@
 -- The heard list by way of the unpacked form.
-use mathlib.Core.Path.{subst}
+use mathlib.Core.Path.{ap, _∙_}
 use borrow.Author.Needs.{needs}
-use Rattle.head.specs.Heard.{HeardCall}
+use Rattle.head.specs.Heard.{heardCall}
 use Rattle.packed.proofs.ByPlain.{heard-handed}
 use Rattle.packed.proofs.plain.heard_into.Statement.{statement}
 use Rattle.packed.proofs.plain.heard_into.Tie as tie
@@ -14,4 +14,7 @@ heard-into-spec =
     (λ c κs. search needs)
     (λ c. search needs)
     (λ c. search needs)
-    (λ c. heard-handed (subst (λ s. HeardCall s (c .before .before .before .before .before .before .before .before .before .before .before .before .args .records .now) (c .before .before .wilbryn-heard .result) (c .before .before .wilbryn-heard .last .1 .0)) (c .before .before .before .before .before .before .before .unpack-into .ensures) (c .before .before .wilbryn-heard .ensures))))
+    (λ c.
+    let start = c .before .before .before .before .before .before .before .before .before .before .before .before in
+    c .before .before .wilbryn-heard .ensures ∙ ap (λ s. heardCall s (start .args .records .now)) (c .before .before .before .before .before .before .before .unpack-into .ensures)
+    ∙ heard-handed (start .args .packed .now) (start .args .records .now)))
