@@ -8,7 +8,7 @@ use borrow.Author.Tests.{eqb-true}
 use lib.Dec.{eqb}
 use lib.ListN.{length, getD}
 use Rattle.image.proofs.Passing.{and-holds}
-use Rattle.line.specs.Examples.{answered, replyTo, answersTo}
+use Rattle.line.specs.Examples.{answered, answersTo}
 use Rattle.cases.specs.Case.{freshTo, labelsOf, afterAll, outcome, number}
 use Rattle.cases.specs.Table.{Case, firstMeetings, table, _gives_}
 use Rattle.cases.specs.Theory.{Theory}
@@ -38,7 +38,7 @@ pass-each (c ∷ l) d e zero i = same-is (outcome (c .given)) (c .expected) (and
 pass-each (c ∷ l) d e (suc k) i = pass-each l d (and-holds (same (outcome (c .given)) (c .expected)) (pass l) .0 e .1) k (omega arith)
 
 table-passes : pass table ≡ true
-unfolding answered replyTo answersTo freshTo labelsOf afterAll outcome firstMeetings same pass table
+unfolding answered answersTo freshTo labelsOf afterAll outcome firstMeetings same pass table
 table-passes = refl
 
 pub theory : Theory

@@ -1,25 +1,26 @@
 -- The numbers that the calls answer, and how long what they leave is.
-use Prim.Native.Nat.{ℕ, _-_, _*_, _≤_, _<_}
-use mathlib.Core.Path.{_≡_, refl, sym, ap, _∙_}
+use Prim.Native.Nat.{ℕ, _*_, _≤_, _<_}
+use mathlib.Core.Path.{_≡_, refl, sym, ap, subst}
 use mathlib.Core.Bool.{Bool, true, false, _||_, not, cond}
-use mathlib.Core.List.{List, flatMap}
+use mathlib.Core.List.{List}
 use native.Mathlib.Omega.{arith}
-use borrow.Author.Tests.{eqb-true}
+use native.Mathlib.Decide.{ℕ-discrete}
 use lib.Dec.{ltb, eqb}
-use lib.ListN.{length, replicate, length-append, length-replicate}
+use lib.ListN.{length}
 use Rattle.image.specs.Layout.{largest, yieldLimit}
 use Rattle.image.specs.Encode.{tableOf}
 use Rattle.image.specs.Check.{checked}
 use Rattle.image.specs.declared.Header.{Header}
 use Rattle.image.specs.declared.Checked.{Checked}
 use Rattle.image.specs.declared.Checked.the-variants.{Good, Refused}
-use Rattle.image.proofs.Has.{length-flatMap}
 use Rattle.image.proofs.Passing.{either}
 use Rattle.image.proofs.Stages.{refused-le}
 use Rattle.image.proofs.Accepted.{accepted}
 use Rattle.head.specs.Calls.{Outcome, milked, milkingCall}
 use Rattle.head.specs.Settled.{Settled, settledCounts, settledFrom, settledCall}
-use Rattle.head.specs.Heard.{recordOf, HeardList, HeardInto, HeardFrom, HeardCall}
+use Rattle.head.specs.Heard.{HeardOutcome, heardCount, heardCall}
+use Rattle.head.proofs.HeardLists.{heard-few}
+use Rattle.head.proofs.HeardCalls.{heard-refused, heard-short, heard-accepted}
 use Rattle.merge.specs.Verdict.{undecided}
 use Rattle.merge.specs.Call.{MeetingOutcome, refusedMeeting, acceptedMeeting, metTogether, metGood, metChecked, meetingCall}
 use Rattle.merge.proofs.label.NewLabel.{newLabel-most}
@@ -87,19 +88,16 @@ module _ (s u buffer : List ℕ) where
       → _≡_ {A = MeetingOutcome} (record { answer = r; first = first; second = second; verdicts = verdicts }) (meetingCall s u buffer) → r ≤ 265
   meeting-code e = omega (arith, ap (λ (o : MeetingOutcome). o .answer) e, meeting-number)
 
--- a heard list answers its count, or 256 plus a number up to 8
-module _ (s buffer out : List ℕ) (n answer : ℕ) (long : length buffer ≡ 3 * n) (same : length out ≡ length buffer) where
-  count-le : {m own : ℕ} → 3 * n ≡ 3 * m → HeardList s m own answer out → answer ≤ n
-  count-le {m} e w =
-      omega (arith, ap length (w .written), length-append (flatMap (recordOf s m) (w .stalls)) (replicate (3 * m - 3 * answer) 0), length-flatMap 3 (recordOf s m) (λ r. refl) (w .stalls), length-replicate {A = ℕ} (3 * m - 3 * answer) 0, w .counted)
+-- a heard list answers its count, at most N, or 256 plus a number up to 8
+abbrev Few : ℕ → HeardOutcome → Type 0
+Few n o = (o .answer ≤ 264) × (o .answer < 256 → o .answer ≤ n)
 
-  pub heard-number : n ≤ largest → HeardCall s buffer answer out → (answer ≤ 264) × (answer < 256 → answer ≤ n)
-  heard-number l w = go (checked s) refl (w .heard)
-    where
-      into : (h : Header) (b : Bool) → eqb (length buffer) (3 * h .n) ≡ b → HeardInto s buffer answer out h b → (answer ≤ 264) × (answer < 256 → answer ≤ n)
-      into h true e v = let k = count-le (sym long ∙ eqb-true (length buffer) (3 * h .n) e) v in (omega arith, λ _. k)
-      into h false e v = (omega (arith, v .0), λ k. absurd (omega (arith, v .0)))
-
-      go : (x : Checked) → checked s ≡ x → HeardFrom s buffer answer out x → (answer ≤ 264) × (answer < 256 → answer ≤ n)
-      go (Good h) e v = into h (eqb (length buffer) (3 * h .n)) refl v
-      go (Refused number) e v = (omega (arith, v .0, refused-le s e), λ k. absurd (omega (arith, v .0)))
+pub heard-number : (s buffer : List ℕ) (n : ℕ) → length buffer ≡ 3 * n → n ≤ largest → Few n (heardCall s buffer)
+heard-number s buffer n long most = go (checked s) refl
+  where
+    go : (x : Checked) → checked s ≡ x → Few n (heardCall s buffer)
+    go (Good h) e = elim (ℕ-discrete (length buffer) (3 * h .n)) [
+      | yes i ↦ let l : heardCount s (h .n) (h .stall) ≤ n = omega (arith, heard-few s (h .n) (h .stall)) in subst (Few n) (sym (heard-accepted s buffer e i)) (omega arith, λ _. l)
+      | no f ↦ subst (Few n) (heard-short s buffer e f) (omega arith, λ k. absurd (omega arith))
+    ]
+    go (Refused number) e = subst (Few n) (heard-refused s buffer e refl) (omega (arith, refused-le s e), λ k. absurd (omega arith))

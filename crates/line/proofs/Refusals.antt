@@ -1,7 +1,7 @@
 -- Document 01: "A refusal returns its number alone and changes no lent byte." So does a line: an answer that does not begin with 00 has one byte, and every byte
 -- of the state is as it was, whichever of the calls refused.
 use Prim.Native.Nat.{ℕ, _+_, _-_, _*_, _≤_}
-use mathlib.Core.Path.{_≡_, refl, sym, ap, ap₂, subst, _∙_}
+use mathlib.Core.Path.{_≡_, refl, sym, ap, ap₂, _∙_}
 use mathlib.Core.Bool.{Bool, true, false, _||_, not, cond}
 use mathlib.Core.List.{List, [], _∷_, _++_, append-assoc}
 use native.Mathlib.Omega.{arith}
@@ -18,12 +18,13 @@ use Rattle.image.specs.declared.Checked.the-variants.{Good, Refused}
 use Rattle.image.proofs.Passing.{either}
 use Rattle.image.proofs.Accepted.{accepted}
 use Rattle.head.specs.Calls.{refused, accepted as done, withCurrent, milked, milkingCall}
+use Rattle.head.specs.Heard.{heardCall}
 use Rattle.head.specs.Settled.{settledCall}
 use Rattle.merge.specs.Verdict.{undecided}
 use Rattle.merge.specs.Call.{MeetingOutcome, refusedMeeting, acceptedMeeting, metTogether, metGood, metChecked, meetingCall}
 use Rattle.merge.proofs.label.NewLabel.{newLabel-most}
 use Rattle.line.specs.Parlour.{stateLength, headsOf, isOpen, slotPlace, imageOf, withImage, freshState}
-use Rattle.line.specs.Answer.{Reply, refusal, opening, milkedBy, milking, metBy, meetingOf, meeting, showing, HeardAnswer, settledBy, settling, Replies}
+use Rattle.line.specs.Answer.{Reply, refusal, opening, milkedBy, milking, metBy, meetingOf, meeting, showing, heardBy, hearing, settledBy, settling, replyTo}
 use Rattle.line.specs.declared.frame.Frame.{Frame}
 use Rattle.line.specs.declared.frame.Frame.the-variants.{Open, Milking, Meeting, Show, Heard, Settled, Bad}
 use Rattle.line.proofs.Slots.{slot-fits}
@@ -110,9 +111,12 @@ module _ (state : List ℕ) where
   told-alone true more number f = absurd (f refl)
   told-alone false more number f = (refl, refl)
 
-  heard-alone : (stall : ℕ) (reply : Reply) (b : Bool) → HeardAnswer state stall reply b → Alone state reply
-  heard-alone stall reply true e = subst (Alone state) (sym e) (refused-alone 3)
-  heard-alone stall reply false w = subst (Alone state) (sym (w .replied)) (told-alone (ltb (w .count) 256) (w .count ∷ take (3 * w .count) (w .records)) (w .count - 256))
+  hearing-alone : (stall : ℕ) → Alone state (hearing state stall)
+  unfolding hearing
+  hearing-alone stall =
+      let o = heardCall (imageOf state stall) (replicate (3 * headsOf state) 0) in
+      choice (badStall (headsOf state) stall) (refusal state 3) (heardBy state o) (λ _. refused-alone 3)
+      (λ _. told-alone (ltb (o .answer) 256) (o .answer ∷ take (3 * o .answer) (o .records)) (o .answer - 256))
 
   settling-alone : (stall : ℕ) → Alone state (settling state stall)
   unfolding settling
@@ -150,24 +154,22 @@ module _ (state : List ℕ) where
         (λ _. met-alone p q i j (meetingCall (imageOf state p) (imageOf state q) (replicate (headsOf state) 0))
         (meeting-keeps (imageOf state p) (imageOf state q) (replicate (headsOf state) 0)))))
 
-pub refusal-alone : (state : List ℕ) (frame : Frame) (reply : Reply) → length state ≡ stateLength → Replies state (isOpen state) frame reply → (getD (reply .bytes) 0 0 ≡ 0 → ⊥)
-    → (length (reply .bytes) ≡ 1) × (reply .state ≡ state)
-refusal-alone state frame reply long = go (isOpen state) refl frame
+pub refusal-alone : (state : List ℕ) (frame : Frame) → let reply = replyTo state (isOpen state) frame in length state ≡ stateLength
+    → (getD (reply .bytes) 0 0 ≡ 0 → ⊥) → (length (reply .bytes) ≡ 1) × (reply .state ≡ state)
+refusal-alone state frame long = go (isOpen state) refl frame
   where
-    is : (x : Reply) → Alone state x → reply ≡ x → Alone state reply
-    is x a e = subst (Alone state) (sym e) a
-
-    go : (b : Bool) → isOpen state ≡ b → (f : Frame) → Replies state b f reply → Alone state reply
-    go b o Bad r = is (refusal state 10) (refused-alone state 10) r
-    go true o (Open n) r = is (refusal state 11) (refused-alone state 11) r
-    go false o (Open n) r = is (opening state n) (opening-alone state n) r
-    go true o (Milking stall yield) r = is (milking state stall yield) (milking-alone state long o stall yield) r
-    go true o (Meeting p q) r = is (meeting state p q) (meeting-alone state long o p q) r
-    go true o (Show stall) r = is (showing state stall) (showing-alone state stall) r
-    go true o (Heard stall) r = heard-alone state stall reply (badStall (headsOf state) stall) r
-    go true o (Settled stall) r = is (settling state stall) (settling-alone state stall) r
-    go false o (Milking stall yield) r = is (refusal state 11) (refused-alone state 11) r
-    go false o (Meeting p q) r = is (refusal state 11) (refused-alone state 11) r
-    go false o (Show stall) r = is (refusal state 11) (refused-alone state 11) r
-    go false o (Heard stall) r = is (refusal state 11) (refused-alone state 11) r
-    go false o (Settled stall) r = is (refusal state 11) (refused-alone state 11) r
+    go : (b : Bool) → isOpen state ≡ b → (f : Frame) → Alone state (replyTo state b f)
+    go true o Bad = refused-alone state 10
+    go false o Bad = refused-alone state 10
+    go true o (Open n) = refused-alone state 11
+    go false o (Open n) = opening-alone state n
+    go true o (Milking stall yield) = milking-alone state long o stall yield
+    go true o (Meeting p q) = meeting-alone state long o p q
+    go true o (Show stall) = showing-alone state stall
+    go true o (Heard stall) = hearing-alone state stall
+    go true o (Settled stall) = settling-alone state stall
+    go false o (Milking stall yield) = refused-alone state 11
+    go false o (Meeting p q) = refused-alone state 11
+    go false o (Show stall) = refused-alone state 11
+    go false o (Heard stall) = refused-alone state 11
+    go false o (Settled stall) = refused-alone state 11

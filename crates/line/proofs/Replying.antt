@@ -1,6 +1,6 @@
 -- Replies in the buffers of a call.
 use Prim.Native.Nat.{ℕ, _+_, _-_, _*_, _≤_}
-use mathlib.Core.Path.{_≡_, refl, sym, ap, ap₂, subst, _∙_}
+use mathlib.Core.Path.{_≡_, refl, sym, ap, ap₂, _∙_}
 use mathlib.Core.Bool.{Bool, true, false, not}
 use mathlib.Core.List.{List, [], _∷_, _++_, append-assoc}
 use native.Mathlib.Omega.{arith}
@@ -14,7 +14,7 @@ use Rattle.image.proofs.Stages.{length-range}
 use Rattle.image.proofs.Overwrite.{behind}
 use Rattle.line.specs.Digits.{pairOf, digitsOf}
 use Rattle.line.specs.Parlour.{headsOf, slotPlace, imageOf, withImage, freshState}
-use Rattle.line.specs.Answer.{Reply, refusal, opening, milkedBy, milking, Replies, written, Given, Replied}
+use Rattle.line.specs.Answer.{Reply, refusal, opening, milkedBy, milking, replyTo, written, AnswerOutcome, outcome, replied}
 use Rattle.line.specs.declared.frame.Frame.{Frame}
 use Rattle.line.specs.Asked.{Opened, StallOf}
 use Rattle.line.proofs.Hexadecimal.{digits-one, digits-append, length-digits}
@@ -40,20 +40,12 @@ pub written-byte : (out l : List ℕ) (b at : ℕ) (x y : List ℕ) → at ≡ 2
 written-byte out l b at x y i e f =
     written-more out l (b ∷ []) at 2 x y i refl e (f ∙ ap (λ d. take at x ++ d ++ drop (at + 2) x) (sym (digits-one b)))
 
-module _ {out out′ state′ : List ℕ} {reply : Reply} {count : ℕ} where
-  pub given-bytes : (bytes : List ℕ) → reply ≡ record { bytes = bytes; state = state′ } → count ≡ 2 * length bytes → out′ ≡ written out bytes → Given out reply count state′ out′
-  given-bytes bytes e k w =
-      record {
-        counted = k ∙ sym (ap (λ (r : Reply). 2 * length (r .bytes)) e);
-        state-is = sym (ap (λ (r : Reply). r .state) e);
-        out-is = w ∙ sym (ap (λ (r : Reply). written out (r .bytes)) e);
-      }
+module _ (out : List ℕ) {out′ state′ : List ℕ} {reply : Reply} {count : ℕ} where
+  pub replied-bytes : (bytes : List ℕ) → reply ≡ record { bytes = bytes; state = state′ } → count ≡ 2 * length bytes → out′ ≡ written out bytes → outcome count state′ out′ ≡ replied out reply
+  replied-bytes bytes e k w = ap₂ (λ c o. outcome c state′ o) k w ∙ sym (ap (replied out) e)
 
-  pub given-same : (other : Reply) → reply ≡ other → Given out other count state′ out′ → Given out reply count state′ out′
-  given-same other e = subst (λ r. Given out r count state′ out′) (sym e)
-
-  pub given-byte : (b : ℕ) → reply ≡ record { bytes = b ∷ []; state = state′ } → (count ≡ 2) × (out′ ≡ written out (b ∷ [])) → Given out reply count state′ out′
-  given-byte b e w = given-bytes (b ∷ []) e (w .0) (w .1)
+  pub replied-byte : (b : ℕ) → reply ≡ record { bytes = b ∷ []; state = state′ } → (count ≡ 2) × (out′ ≡ written out (b ∷ [])) → outcome count state′ out′ ≡ replied out reply
+  replied-byte b e w = replied-bytes (b ∷ []) e (w .0) (w .1)
 
 -- a stall of an open parlour, and its image within the state
 pub stall-of : (n stall : ℕ) → badStall n stall ≡ false → StallOf n stall
@@ -82,14 +74,10 @@ module _ (state out : List ℕ) (stall at count : ℕ) (opened : Opened state ou
       ∙ sym (append-assoc (take at state) image (drop (at + (at + count - at)) state))
       ∙ ap₂ (λ p q. take p state ++ image ++ drop q state) stands k
 
--- one of the replies to a frame
-pub replied : {state out : List ℕ} {opened : Bool} {frame f : Frame} {count : ℕ} {state′ out′ : List ℕ} (reply : Reply) → frame ≡ f → Replies state opened f reply
-    → Given out reply count state′ out′ → Replied state out opened frame count state′ out′
-replied {state} {opened = opened} reply e r g = record { reply = reply; replies = subst (λ x. Replies state opened x reply) (sym e) r; given = g }
-
-pub replied-to : {state out : List ℕ} {opened : Bool} {frame f : Frame} {count : ℕ} {state′ out′ : List ℕ} → frame ≡ f → Replied state out opened f count state′ out′
-    → Replied state out opened frame count state′ out′
-replied-to e r = replied (r .reply) e (r .replies) (r .given)
+-- the reply to a frame
+pub replied-to : (state out : List ℕ) (opened : Bool) {frame f : Frame} {o : AnswerOutcome} → frame ≡ f → o ≡ replied out (replyTo state opened f)
+    → o ≡ replied out (replyTo state opened frame)
+replied-to state out opened e r = r ∙ sym (ap (λ x. replied out (replyTo state opened x)) e)
 
 -- an opening, refused and not
 pub count-range : (n : ℕ) → isCount n ≡ true → (2 ≤ n) × (n ≤ largest)

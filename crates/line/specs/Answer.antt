@@ -2,7 +2,6 @@
 -- Document 01: "An answer is `00`, then for a meeting the label and N verdicts, for `04` the image, for `05` the count and the records alone; or the refusal
 -- number in two hexadecimal digits (ten is `0a`). Order: 10, 11, then 1, 3, 4, 7. An empty line is 10. An opening refused with 1 opens nothing."
 use Prim.Native.Nat.{ℕ, _+_, _-_, _*_}
-use mathlib.Core.Path.{_≡_}
 use mathlib.Core.Bool.{Bool, true, false, _&&_, cond}
 use mathlib.Core.List.{List, [], _∷_, _++_}
 use lib.Dec.{leb, ltb, eqb}
@@ -10,7 +9,7 @@ use lib.ListN.{length, take, drop, replicate}
 use Rattle.image.specs.Layout.{isCount, longest}
 use Rattle.image.specs.Check.{badStall}
 use Rattle.head.specs.Calls.{Outcome, milkingCall}
-use Rattle.head.specs.Heard.{HeardCall}
+use Rattle.head.specs.Heard.{HeardOutcome, heardCall}
 use Rattle.head.specs.Settled.{Settled as SettledOutcome, settledCall}
 use Rattle.merge.specs.Call.{MeetingOutcome, meetingCall}
 use Rattle.line.specs.Digits.{digitsOf}
@@ -65,16 +64,13 @@ module _ (state : List ℕ) where
   unfoldable pub showing : ℕ → Reply
   showing stall = cond (badStall (headsOf state) stall) (refusal 3) (record { bytes = 0 ∷ imageOf state stall; state = state })
 
-  -- "the count and the records alone", in the order that the heard list gives them
-  pub record HeardReply (stall : ℕ) (reply : Reply) : Type 0 where
-    pub count : ℕ
-    pub records : List ℕ
-    pub heard : HeardCall (imageOf state stall) (replicate (3 * headsOf state) 0) count records
-    pub replied : reply ≡ record { bytes = answerBytes count (count ∷ take (3 * count) records); state = state }
+  -- "for `05` the count and the records alone", or the call's refusal
+  abbrev pub heardBy : HeardOutcome → Reply
+  heardBy o = record { bytes = answerBytes (o .answer) (o .answer ∷ take (3 * o .answer) (o .records)); state = state }
 
-  abbrev pub HeardAnswer : ℕ → Reply → Bool → Type 0
-  HeardAnswer stall reply true = reply ≡ refusal 3
-  HeardAnswer stall reply false = HeardReply stall reply
+  -- 3: a stall not 1 to N; the call is lent a buffer of 3 × N bytes
+  unfoldable pub hearing : ℕ → Reply
+  hearing stall = cond (badStall (headsOf state) stall) (refusal 3) (heardBy (heardCall (imageOf state stall) (replicate (3 * headsOf state) 0)))
 
   -- Request 2026-05: "answers `00`, then for each stall the number of stalls that this head knows to have heard its latest of that stall", or the call's refusal
   abbrev pub settledBy : SettledOutcome → Reply
@@ -84,21 +80,25 @@ module _ (state : List ℕ) where
   unfoldable pub settling : ℕ → Reply
   settling stall = cond (badStall (headsOf state) stall) (refusal 3) (settledBy (settledCall (imageOf state stall) (replicate (headsOf state) 0)))
 
-  -- what a frame may be answered with while a parlour is open, and before
-  abbrev pub Replies : Bool → Frame → Reply → Type 0
-  Replies opened Bad reply = reply ≡ refusal 10
-  Replies true (Open n) reply = reply ≡ refusal 11
-  Replies false (Open n) reply = reply ≡ opening n
-  Replies true (Milking stall yield) reply = reply ≡ milking stall yield
-  Replies true (Meeting p q) reply = reply ≡ meeting p q
-  Replies true (Show stall) reply = reply ≡ showing stall
-  Replies true (Heard stall) reply = HeardAnswer stall reply (badStall (headsOf state) stall)
-  Replies true (Settled stall) reply = reply ≡ settling stall
-  Replies false (Milking stall yield) reply = reply ≡ refusal 11
-  Replies false (Meeting p q) reply = reply ≡ refusal 11
-  Replies false (Show stall) reply = reply ≡ refusal 11
-  Replies false (Heard stall) reply = reply ≡ refusal 11
-  Replies false (Settled stall) reply = reply ≡ refusal 11
+  -- what a frame is answered with while a parlour is open, and before
+  abbrev pub replyTo : Bool → Frame → Reply
+  replyTo opened Bad = refusal 10
+  replyTo true (Open n) = refusal 11
+  replyTo false (Open n) = opening n
+  replyTo true (Milking stall yield) = milking stall yield
+  replyTo true (Meeting p q) = meeting p q
+  replyTo true (Show stall) = showing stall
+  replyTo true (Heard stall) = hearing stall
+  replyTo true (Settled stall) = settling stall
+  replyTo false (Milking stall yield) = refusal 11
+  replyTo false (Meeting p q) = refusal 11
+  replyTo false (Show stall) = refusal 11
+  replyTo false (Heard stall) = refusal 11
+  replyTo false (Settled stall) = refusal 11
+
+  -- and a line
+  abbrev pub replyToLine : List ℕ → Reply
+  replyToLine line = replyTo (isOpen state) (frameOf line)
 
 -- some bytes as digits at the start of a buffer, the rest of it as it was
 unfoldable pub written : List ℕ → List ℕ → List ℕ
@@ -108,22 +108,20 @@ written out bytes = digitsOf bytes ++ drop (2 * length bytes) out
 abbrev pub longestAnswer : ℕ
 longestAnswer = 2 + 2 * longest
 
--- a reply in the buffers of a call: how many digits come back, and every byte of the state and of the buffer afterwards
-pub record Given (out : List ℕ) (reply : Reply) (count : ℕ) (state′ out′ : List ℕ) : Type 0 where
-  pub counted : count ≡ 2 * length (reply .bytes)
-  pub state-is : state′ ≡ reply .state
-  pub out-is : out′ ≡ written out (reply .bytes)
+-- how many digits come back from a call, and every byte of the state and of the buffer afterwards
+pub record AnswerOutcome : Type 0 where
+  pub count : ℕ
+  pub state : List ℕ
+  pub out : List ℕ
 
--- one of the replies to a frame
-pub record Replied (state out : List ℕ) (opened : Bool) (frame : Frame) (count : ℕ) (state′ out′ : List ℕ) : Type 0 where
-  pub reply : Reply
-  pub replies : Replies state opened frame reply
-  pub given : Given out reply count state′ out′
+abbrev pub outcome : ℕ → List ℕ → List ℕ → AnswerOutcome
+outcome count state out = record { count = count; state = state; out = out }
+
+-- a reply in the buffers of a call
+abbrev pub replied : List ℕ → Reply → AnswerOutcome
+replied out reply = outcome (2 * length (reply .bytes)) (reply .state) (written out (reply .bytes))
 
 -- a state of another length, or a buffer too short for the longest answer: 0 digits, and every byte as it was
-abbrev pub AnswerIn : List ℕ → List ℕ → List ℕ → ℕ → List ℕ → List ℕ → Bool → Type 0
-AnswerIn state line out count state′ out′ true = Replied state out (isOpen state) (frameOf line) count state′ out′
-AnswerIn state line out count state′ out′ false = (count ≡ 0) × (state′ ≡ state) × (out′ ≡ out)
-
-pub record AnswerCall (state line out : List ℕ) (count : ℕ) (state′ out′ : List ℕ) : Type 0 where
-  pub answer : AnswerIn state line out count state′ out′ (eqb (length state) stateLength && leb longestAnswer (length out))
+unfoldable pub answerCall : List ℕ → List ℕ → List ℕ → AnswerOutcome
+answerCall state line out =
+    cond (eqb (length state) stateLength && leb longestAnswer (length out)) (replied out (replyToLine state line)) (outcome 0 state out)

@@ -1,74 +1,30 @@
--- Document 01's listing as lines, its examples for the numbers 10 and 11, those of the other numbers that a line can draw, and request 2026-05's kind on the listing, by
--- evaluation.
+-- Document 01's listing as lines, its examples for the numbers 10 and 11, those of the other numbers that a line can draw, and the heard list and request 2026-05's kind on
+-- the listing, by evaluation.
 use Prim.Native.Nat.{ℕ}
 use mathlib.Core.Path.{_≡_, refl}
-use mathlib.Core.Bool.{Bool, true, false, true≢false}
 use mathlib.Core.List.{List, [], _∷_, _++_, map, flatMap}
 use lib.ListN.{replicate}
 use Rattle.image.specs.Stalls.{count}
 use Rattle.image.specs.Examples.{notMilked, listing}
 use Rattle.merge.specs.Examples.{evaluated as merge-evaluated}
 use Rattle.head.specs.Calls.{milked, milkingCall}
+use Rattle.head.specs.HeardOrder.{chosen}
+use Rattle.head.specs.Heard.{heardCount, heardBytes, heardFrom}
 use Rattle.head.specs.Settled.{settledCounts, settledFrom}
 use Rattle.line.specs.Digits.{isDigit, digitValue, allDigits, wholePairs, pairValue, bytesOf, digitOf, digitsOf}
 use Rattle.line.specs.Frame.{kindOfTwo, kindOfThree, kindOfFour, frameOfBytes, frameOf}
-use Rattle.line.specs.Parlour.{stateLength, isOpen, imageOf, withImage, freshSlot, freshState}
-use Rattle.line.specs.Answer.{Reply, refusal, opening, milking, meetingOf, meeting, showing, settling, Replies}
-use Rattle.line.specs.declared.frame.Frame.{Frame}
-use Rattle.line.specs.declared.frame.Frame.the-variants.{Open, Milking, Meeting, Show, Heard, Settled, Bad}
+use Rattle.line.specs.Parlour.{stateLength, imageOf, withImage, freshSlot, freshState}
+use Rattle.line.specs.Answer.{opening, milking, meetingOf, meeting, showing, hearing, settling, replyToLine}
 
 -- whoever unfolds this unfolds all that an answer is computed with
 unfoldable pub answered : Unit {0}
-unfolding flatMap merge-evaluated milked milkingCall count settledCounts settledFrom isDigit digitValue allDigits wholePairs pairValue bytesOf digitOf digitsOf kindOfTwo kindOfThree kindOfFour frameOfBytes frameOf imageOf withImage freshSlot freshState opening milking meetingOf meeting showing settling
+unfolding flatMap merge-evaluated milked milkingCall chosen heardCount heardBytes heardFrom count settledCounts settledFrom isDigit digitValue allDigits wholePairs pairValue bytesOf digitOf digitsOf kindOfTwo kindOfThree kindOfFour frameOfBytes frameOf imageOf withImage freshSlot freshState opening milking meetingOf meeting showing hearing settling
 answered = tt
-
--- the one reply to any frame but a heard list's
-unfoldable pub replyTo : List ℕ → Bool → Frame → Reply
-replyTo state opened Bad = refusal state 10
-replyTo state true (Open n) = refusal state 11
-replyTo state false (Open n) = opening state n
-replyTo state true (Milking stall yield) = milking state stall yield
-replyTo state true (Meeting p q) = meeting state p q
-replyTo state true (Show stall) = showing state stall
-replyTo state true (Heard stall) = refusal state 0
-replyTo state true (Settled stall) = settling state stall
-replyTo state false (Milking stall yield) = refusal state 11
-replyTo state false (Meeting p q) = refusal state 11
-replyTo state false (Show stall) = refusal state 11
-replyTo state false (Heard stall) = refusal state 11
-replyTo state false (Settled stall) = refusal state 11
-
-abbrev isList : Frame → Bool
-isList (Heard stall) = true
-isList (Open n) = false
-isList (Milking stall yield) = false
-isList (Meeting p q) = false
-isList (Show stall) = false
-isList (Settled stall) = false
-isList Bad = false
-
-pub one-reply : (state : List ℕ) (opened : Bool) (frame : Frame) (reply : Reply) → isList frame ≡ false → Replies state opened frame reply → reply ≡ replyTo state opened frame
-unfolding replyTo
-one-reply state opened Bad reply e r = r
-one-reply state true (Open n) reply e r = r
-one-reply state false (Open n) reply e r = r
-one-reply state true (Milking stall yield) reply e r = r
-one-reply state true (Meeting p q) reply e r = r
-one-reply state true (Show stall) reply e r = r
-one-reply state true (Heard stall) reply e r = absurd (true≢false e)
-one-reply state true (Settled stall) reply e r = r
-one-reply state false (Milking stall yield) reply e r = r
-one-reply state false (Meeting p q) reply e r = r
-one-reply state false (Show stall) reply e r = r
-one-reply state false (Heard stall) reply e r = r
-one-reply state false (Settled stall) reply e r = r
 
 -- the answers to some lines in turn, as bytes
 unfoldable pub answersTo : List ℕ → List (List ℕ) → List (List ℕ)
 answersTo state [] = []
-answersTo state (line ∷ l) =
-    let reply = replyTo state (isOpen state) (frameOf line) in
-    reply .bytes ∷ answersTo (reply .state) l
+answersTo state (line ∷ l) = let reply = replyToLine state line in reply .bytes ∷ answersTo (reply .state) l
 
 -- no parlour is open
 abbrev pub shut : List ℕ
@@ -100,7 +56,7 @@ answers =
 
 -- "Input and whole output"
 listing-example : answersTo shut (map digitsOf frames) ≡ answers
-unfolding answered replyTo answersTo
+unfolding answered answersTo
 listing-example = refl
 
 -- 10: a digit alone; an empty line; an upper-case digit; a kind unknown; a length that is not the kind's; a carriage return
@@ -113,7 +69,7 @@ bad-examples : answersTo shut
     ∷ (digitsOf (0x01 ∷ 0x03 ∷ []) ++ (0x0d ∷ []))
     ∷ [])
     ≡ replicate 6 (10 ∷ [])
-unfolding answered replyTo answersTo
+unfolding answered answersTo
 bad-examples = refl
 
 -- 11 before any opening, and for a second one whatever its N; 10 comes first; an opening refused with 1 opens nothing
@@ -128,7 +84,7 @@ opening-examples : answersTo shut (map digitsOf
     ∷ (0x01 ∷ 0x01 ∷ [])
     ∷ []))
     ≡ (11 ∷ []) ∷ (10 ∷ []) ∷ (1 ∷ []) ∷ (1 ∷ []) ∷ (11 ∷ []) ∷ (0 ∷ []) ∷ (11 ∷ []) ∷ (11 ∷ []) ∷ []
-unfolding answered replyTo answersTo
+unfolding answered answersTo
 opening-examples = refl
 
 -- 3 before 4, 3 before 7, yields of 999, 1000, fe00 and ffff, and the image that they leave
@@ -146,8 +102,17 @@ stall-examples : answersTo shut (map digitsOf
     ∷ []))
     ≡ (0 ∷ []) ∷ (3 ∷ []) ∷ (3 ∷ []) ∷ (3 ∷ []) ∷ (7 ∷ []) ∷ (0 ∷ []) ∷ (4 ∷ []) ∷ (4 ∷ []) ∷ (4 ∷ [])
     ∷ (0 ∷ ((2 ∷ 1 ∷ 0x03 ∷ 0xe7 ∷ replicate 8 0) ++ notMilked 2 ++ replicate 2 0)) ∷ []
-unfolding answered replyTo answersTo
+unfolding answered answersTo
 stall-examples = refl
+
+-- 11 before any opening. A fresh head has heard nobody. After the listing's meetings head 3 has heard of all, with 0012 for stall 1 and not milked for 2 and 3; head 1 never
+-- heard stall 3. 3: a stall that is not there.
+heard-examples : answersTo shut (map digitsOf ((0x05 ∷ 0x01 ∷ []) ∷ (0x01 ∷ 0x03 ∷ []) ∷ (0x05 ∷ 0x03 ∷ []) ∷ (0x02 ∷ 0x01 ∷ 0x00 ∷ 0x12 ∷ []) ∷ (0x03 ∷ 0x01 ∷ 0x02 ∷ [])
+    ∷ (0x03 ∷ 0x02 ∷ 0x03 ∷ []) ∷ (0x05 ∷ 0x03 ∷ []) ∷ (0x05 ∷ 0x01 ∷ []) ∷ (0x05 ∷ 0x04 ∷ []) ∷ []))
+    ≡ (11 ∷ []) ∷ (0 ∷ []) ∷ (0 ∷ 0 ∷ []) ∷ (0 ∷ []) ∷ (0 ∷ 0 ∷ 0 ∷ 0 ∷ 0 ∷ []) ∷ (0 ∷ 0 ∷ 1 ∷ 1 ∷ 0 ∷ [])
+    ∷ (0 ∷ 3 ∷ 1 ∷ 0x00 ∷ 0x12 ∷ 2 ∷ 0xff ∷ 0xff ∷ 3 ∷ 0xff ∷ 0xff ∷ []) ∷ (0 ∷ 2 ∷ 1 ∷ 0x00 ∷ 0x12 ∷ 2 ∷ 0xff ∷ 0xff ∷ []) ∷ (3 ∷ []) ∷ []
+unfolding answered answersTo
+heard-examples = refl
 
 -- 11 before any opening. A fresh head has heard nobody. After the listing's meetings 1-2 and 2-3, heads 2 and 3 know stall 1's latest, 1-2, to lie in the past of everybody's
 -- latest, and 2-3 in that of stalls 2 and 3; head 1 has 1-2 alone, and never heard stall 3. 3: a stall that is not there; 10: a length that is not the kind's.
@@ -168,5 +133,5 @@ settled-examples : answersTo shut (map digitsOf
     ∷ []))
     ≡ (11 ∷ []) ∷ (0 ∷ []) ∷ (0 ∷ 0 ∷ 0 ∷ 0 ∷ []) ∷ (0 ∷ []) ∷ (0 ∷ 0 ∷ 0 ∷ 0 ∷ 0 ∷ []) ∷ (0 ∷ 0 ∷ 1 ∷ 1 ∷ 0 ∷ [])
     ∷ (0 ∷ 2 ∷ 2 ∷ 0 ∷ []) ∷ (0 ∷ 3 ∷ 2 ∷ 2 ∷ []) ∷ (0 ∷ 3 ∷ 2 ∷ 2 ∷ []) ∷ (3 ∷ []) ∷ (3 ∷ []) ∷ (10 ∷ []) ∷ (10 ∷ []) ∷ []
-unfolding answered replyTo answersTo
+unfolding answered answersTo
 settled-examples = refl

@@ -5,9 +5,8 @@ ghost use mathlib.Core.List.{[], _∷_};
 ghost use Prim.Native.Nat.{_+_, _*_, _≤_};
 ghost use lib.ListN.{length};
 ghost use Rattle.line.specs.Parlour.{headsOf};
-ghost use Rattle.line.specs.Answer.{opening, milking, meetingOf, meeting, showing, settling, written, Given, Replied, AnswerCall};
+ghost use Rattle.line.specs.Answer.{opening, milking, meetingOf, meeting, showing, hearing, settling, replyTo, written, outcome, replied, answerCall};
 ghost use Rattle.line.specs.Asked.{Ready, Opened, StallOf};
-ghost use Rattle.line.specs.declared.frame.Frame.the-variants.{Heard};
 use crate::digits::put_byte;
 use crate::digits::put_bytes;
 use crate::frame::Frame;
@@ -68,7 +67,7 @@ fn reply_with(out: &mut [u8], byte: u8, more: &[u8]) -> usize
 // Opens a parlour of n heads.
 fn open(state: &mut [u8], n: u8, out: &mut [u8]) -> usize
     requires { ⌜ Ready (now state) (now out) ⌝ }
-    ensures { λ r. ⌜ Given (now (out .entry)) (opening (now (state .entry)) n) r (now (state .exit)) (now (out .exit)) ⌝ }
+    ensures { λ r. ⌜ outcome r (now (state .exit)) (now (out .exit)) ≡ replied (now (out .entry)) (opening (now (state .entry)) n) ⌝ }
 {
     if is_count(n) {
         open_parlour(state, n);
@@ -80,7 +79,7 @@ fn open(state: &mut [u8], n: u8, out: &mut [u8]) -> usize
 // A milking of the head at a stall.
 fn milk(state: &mut [u8], stall: u8, given: u16, out: &mut [u8]) -> usize
     requires { ⌜ Opened (now state) (now out) ⌝ }
-    ensures { λ r. ⌜ Given (now (out .entry)) (milking (now (state .entry)) stall given) r (now (state .exit)) (now (out .exit)) ⌝ }
+    ensures { λ r. ⌜ outcome r (now (state .exit)) (now (out .exit)) ≡ replied (now (out .entry)) (milking (now (state .entry)) stall given) ⌝ }
 {
     let n = state[0];
     if bad_stall(n, stall) {
@@ -96,7 +95,7 @@ fn milk(state: &mut [u8], stall: u8, given: u16, out: &mut [u8]) -> usize
 fn meet_stalls(state: &mut [u8], n: u8, p: u8, q: u8, out: &mut [u8]) -> usize
     requires { ⌜ Opened (now state) (now out) × (n ≡ headsOf (now state)) × StallOf n p × StallOf n q ⌝ }
     ensures { λ r.
-        ⌜ Given (now (out .entry)) (meetingOf (now (state .entry)) p q) r (now (state .exit)) (now (out .exit)) ⌝ }
+        ⌜ outcome r (now (state .exit)) (now (out .exit)) ≡ replied (now (out .entry)) (meetingOf (now (state .entry)) p q) ⌝ }
 {
     let m = wide(n);
     let count = length_of(m);
@@ -119,7 +118,7 @@ fn meet_stalls(state: &mut [u8], n: u8, p: u8, q: u8, out: &mut [u8]) -> usize
 // A meeting, or its refusal.
 fn meet(state: &mut [u8], p: u8, q: u8, out: &mut [u8]) -> usize
     requires { ⌜ Opened (now state) (now out) ⌝ }
-    ensures { λ r. ⌜ Given (now (out .entry)) (meeting (now (state .entry)) p q) r (now (state .exit)) (now (out .exit)) ⌝ }
+    ensures { λ r. ⌜ outcome r (now (state .exit)) (now (out .exit)) ≡ replied (now (out .entry)) (meeting (now (state .entry)) p q) ⌝ }
 {
     let n = state[0];
     if bad_stall(n, p) {
@@ -137,7 +136,7 @@ fn meet(state: &mut [u8], p: u8, q: u8, out: &mut [u8]) -> usize
 // Shows the image of the head at a stall.
 fn show(state: &[u8], stall: u8, out: &mut [u8]) -> usize
     requires { ⌜ Opened (now state) (now out) ⌝ }
-    ensures { λ r. ⌜ Given (now (out .entry)) (showing (now (state .entry)) stall) r (now (state .entry)) (now (out .exit)) ⌝ }
+    ensures { λ r. ⌜ outcome r (now (state .entry)) (now (out .exit)) ≡ replied (now (out .entry)) (showing (now (state .entry)) stall) ⌝ }
 {
     let n = state[0];
     if bad_stall(n, stall) {
@@ -151,7 +150,7 @@ fn show(state: &[u8], stall: u8, out: &mut [u8]) -> usize
 // Shows the heard list of the head at a stall.
 fn heard(state: &[u8], stall: u8, out: &mut [u8]) -> usize
     requires { ⌜ Opened (now state) (now out) ⌝ }
-    ensures { λ r. ⌜ Replied (now (state .entry)) (now (out .entry)) true (Heard stall) r (now (state .entry)) (now (out .exit)) ⌝ }
+    ensures { λ r. ⌜ outcome r (now (state .entry)) (now (out .exit)) ≡ replied (now (out .entry)) (hearing (now (state .entry)) stall) ⌝ }
 {
     let n = state[0];
     if bad_stall(n, stall) {
@@ -172,7 +171,7 @@ fn heard(state: &[u8], stall: u8, out: &mut [u8]) -> usize
 // Shows for each stall how many stalls the head at the named one knows to have heard its latest of that stall.
 fn settled(state: &[u8], stall: u8, out: &mut [u8]) -> usize
     requires { ⌜ Opened (now state) (now out) ⌝ }
-    ensures { λ r. ⌜ Given (now (out .entry)) (settling (now (state .entry)) stall) r (now (state .entry)) (now (out .exit)) ⌝ }
+    ensures { λ r. ⌜ outcome r (now (state .entry)) (now (out .exit)) ≡ replied (now (out .entry)) (settling (now (state .entry)) stall) ⌝ }
 {
     let n = state[0];
     if bad_stall(n, stall) {
@@ -192,7 +191,7 @@ fn settled(state: &[u8], stall: u8, out: &mut [u8]) -> usize
 // The answer to a frame while a parlour is open.
 fn answer_open(state: &mut [u8], frame: Frame, out: &mut [u8]) -> usize
     requires { ⌜ Opened (now state) (now out) ⌝ }
-    ensures { λ r. ⌜ Replied (now (state .entry)) (now (out .entry)) true frame r (now (state .exit)) (now (out .exit)) ⌝ }
+    ensures { λ r. ⌜ outcome r (now (state .exit)) (now (out .exit)) ≡ replied (now (out .entry)) (replyTo (now (state .entry)) true frame) ⌝ }
 {
     match frame {
         Frame::Bad => reply_byte(out, 10),
@@ -208,7 +207,7 @@ fn answer_open(state: &mut [u8], frame: Frame, out: &mut [u8]) -> usize
 // The answer to a frame before a parlour is open.
 fn answer_shut(state: &mut [u8], frame: Frame, out: &mut [u8]) -> usize
     requires { ⌜ Ready (now state) (now out) ⌝ }
-    ensures { λ r. ⌜ Replied (now (state .entry)) (now (out .entry)) false frame r (now (state .exit)) (now (out .exit)) ⌝ }
+    ensures { λ r. ⌜ outcome r (now (state .exit)) (now (out .exit)) ≡ replied (now (out .entry)) (replyTo (now (state .entry)) false frame) ⌝ }
 {
     match frame {
         Frame::Bad => reply_byte(out, 10), // 10 comes before 11.
@@ -223,8 +222,7 @@ fn answer_shut(state: &mut [u8], frame: Frame, out: &mut [u8]) -> usize
 
 // The answer to a line as digits at the start of out, and how many they are: 0 where the state has not STATE bytes or out fewer than ANSWER.
 pub fn answer(state: &mut [u8], line: &[u8], out: &mut [u8]) -> usize
-    ensures { λ r.
-        ⌜ AnswerCall (now (state .entry)) (now (line .entry)) (now (out .entry)) r (now (state .exit)) (now (out .exit)) ⌝ }
+    ensures { λ r. ⌜ outcome r (now (state .exit)) (now (out .exit)) ≡ answerCall (now (state .entry)) (now (line .entry)) (now (out .entry)) ⌝ }
 {
     if state.len() != STATE {
         return 0;

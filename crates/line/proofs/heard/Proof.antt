@@ -1,9 +1,9 @@
 -- Shows the heard list of the head at a stall.
 use mathlib.Core.Path.{sym, _∙_}
 use native.Mathlib.Omega.{arith}
-use Rattle.line.proofs.Replying.{stall-of}
+use Rattle.line.proofs.Replying.{replied-byte, replied-bytes, stall-of}
 use Rattle.line.proofs.AtStall.{stall-fits}
-use Rattle.line.proofs.HeardLine.{heard-bad, buffer-long, heard-code, heard-refused, used-fits, used-long, heard-done}
+use Rattle.line.proofs.HeardLine.{hearing-bad, buffer-long, heard-code, hearing-refused, used-fits, used-long, hearing-done}
 use borrow.Author.Needs.{needs}
 use Rattle.line.proofs.heard.Statement.{statement}
 use Rattle.line.proofs.heard.Tie as tie
@@ -16,7 +16,7 @@ heard-spec =
     (λ c κs. search needs)
     (λ c κs. search needs)
     (λ c. search needs)
-    (λ c. heard-bad _ _ (sym (c .before .before .before .before .before .bad-stall .ensures) ∙ c .before .before .before .before .if1 .taken) (c .before .before .reply-byte .ensures))
+    (λ c. replied-byte _ 3 (hearing-bad _ _ (sym (c .before .before .before .before .before .bad-stall .ensures) ∙ c .before .before .before .before .if1 .taken)) (c .before .before .reply-byte .ensures))
     (λ c κs. stall-of _ _ (sym (c .before .bad-stall .ensures) ∙ c .if1 .left) .from)
     (λ c κs. search needs)
     (λ c κs. search needs)
@@ -31,7 +31,7 @@ heard-spec =
     (λ c. omega (arith, heard-code (record { opened = c .before .before .before .before .before .before .before .before .before .before .before .before .before .before .pre; good = sym (c .before .before .before .before .before .before .before .before .before .before .bad-stall .ensures) ∙ c .before .before .before .before .before .before .before .before .before .if1 .left; stands = c .before .before .before .before .before .before .before .before .place-of .ensures; long = c .before .before .before .before .before .before .length-of .ensures; m-is = c .before .before .before .before .before .before .before .wide .ensures .0 }) (c .before .before .before .wilbryn-heard .ensures) (c .before .before .before .wilbryn-heard .kept .1 .0) .0))
     (λ c κs. search needs)
     (λ c. search needs)
-    (λ c. heard-refused (record { opened = c .before .before .before .before .before .before .before .before .before .before .before .before .before .before .before .before .before .pre; good = sym (c .before .before .before .before .before .before .before .before .before .before .before .before .before .bad-stall .ensures) ∙ c .before .before .before .before .before .before .before .before .before .before .before .before .if1 .left; stands = c .before .before .before .before .before .before .before .before .before .before .before .place-of .ensures; long = c .before .before .before .before .before .before .before .before .before .length-of .ensures; m-is = c .before .before .before .before .before .before .before .before .before .before .wide .ensures .0 }) (c .before .before .before .before .before .before .wilbryn-heard .ensures) (c .before .before .before .before .before .before .wilbryn-heard .kept .1 .0) (c .before .before .before .before .if2 .taken) (c .before .before .reply-byte2 .ensures))
+    (λ c. replied-byte _ _ (hearing-refused (record { opened = c .before .before .before .before .before .before .before .before .before .before .before .before .before .before .before .before .before .pre; good = sym (c .before .before .before .before .before .before .before .before .before .before .before .before .before .bad-stall .ensures) ∙ c .before .before .before .before .before .before .before .before .before .before .before .before .if1 .left; stands = c .before .before .before .before .before .before .before .before .before .before .before .place-of .ensures; long = c .before .before .before .before .before .before .before .before .before .length-of .ensures; m-is = c .before .before .before .before .before .before .before .before .before .before .wide .ensures .0 }) (c .before .before .before .before .before .before .wilbryn-heard .ensures) (c .before .before .before .before .before .before .wilbryn-heard .kept .1 .0) (c .before .before .before .before .if2 .taken)) (c .before .before .reply-byte2 .ensures))
     (λ c. search needs)
     (λ c. search needs)
     (λ c. search needs)
@@ -39,4 +39,4 @@ heard-spec =
     (λ c. used-long (record { opened = c .before .before .before .before .before .before .before .before .before .before .before .before .before .before .before .pre; good = sym (c .before .before .before .before .before .before .before .before .before .before .before .bad-stall .ensures) ∙ c .before .before .before .before .before .before .before .before .before .before .if1 .left; stands = c .before .before .before .before .before .before .before .before .before .place-of .ensures; long = c .before .before .before .before .before .before .before .length-of .ensures; m-is = c .before .before .before .before .before .before .before .before .wide .ensures .0 }) (c .before .before .before .before .wilbryn-heard .ensures) (c .before .before .before .before .wilbryn-heard .kept .1 .0) (c .before .before .if2 .left) .0)
     (λ c κs. omega (arith, used-long (record { opened = c .before .before .before .before .before .before .before .before .before .before .before .before .before .before .before .pre; good = sym (c .before .before .before .before .before .before .before .before .before .before .before .bad-stall .ensures) ∙ c .before .before .before .before .before .before .before .before .before .before .if1 .left; stands = c .before .before .before .before .before .before .before .before .before .place-of .ensures; long = c .before .before .before .before .before .before .before .length-of .ensures; m-is = c .before .before .before .before .before .before .before .before .wide .ensures .0 }) (c .before .before .before .before .wilbryn-heard .ensures) (c .before .before .before .before .wilbryn-heard .kept .1 .0) (c .before .before .if2 .left) .0, used-long (record { opened = c .before .before .before .before .before .before .before .before .before .before .before .before .before .before .before .pre; good = sym (c .before .before .before .before .before .before .before .before .before .before .before .bad-stall .ensures) ∙ c .before .before .before .before .before .before .before .before .before .before .if1 .left; stands = c .before .before .before .before .before .before .before .before .before .place-of .ensures; long = c .before .before .before .before .before .before .before .length-of .ensures; m-is = c .before .before .before .before .before .before .before .before .wide .ensures .0 }) (c .before .before .before .before .wilbryn-heard .ensures) (c .before .before .before .before .wilbryn-heard .kept .1 .0) (c .before .before .if2 .left) .1, c .before .before .before .before .before .before .before .before .before .before .before .before .before .before .before .pre .room))
     (λ c. search needs)
-    (λ c. heard-done (record { opened = c .before .before .before .before .before .before .before .before .before .before .before .before .before .before .before .before .before .before .pre; good = sym (c .before .before .before .before .before .before .before .before .before .before .before .before .before .before .bad-stall .ensures) ∙ c .before .before .before .before .before .before .before .before .before .before .before .before .before .if1 .left; stands = c .before .before .before .before .before .before .before .before .before .before .before .before .place-of .ensures; long = c .before .before .before .before .before .before .before .before .before .before .length-of .ensures; m-is = c .before .before .before .before .before .before .before .before .before .before .before .wide .ensures .0 }) (c .before .before .before .before .before .before .before .wilbryn-heard .ensures) (c .before .before .before .before .before .before .before .wilbryn-heard .kept .1 .0) (c .before .before .before .before .before .if2 .left) (c .before .before .reply-with .ensures)))
+    (λ c. replied-bytes _ _ (hearing-done (record { opened = c .before .before .before .before .before .before .before .before .before .before .before .before .before .before .before .before .before .before .pre; good = sym (c .before .before .before .before .before .before .before .before .before .before .before .before .before .before .bad-stall .ensures) ∙ c .before .before .before .before .before .before .before .before .before .before .before .before .before .if1 .left; stands = c .before .before .before .before .before .before .before .before .before .before .before .before .place-of .ensures; long = c .before .before .before .before .before .before .before .before .before .before .length-of .ensures; m-is = c .before .before .before .before .before .before .before .before .before .before .before .wide .ensures .0 }) (c .before .before .before .before .before .before .before .wilbryn-heard .ensures) (c .before .before .before .before .before .before .before .wilbryn-heard .kept .1 .0) (c .before .before .before .before .before .if2 .left)) (omega (arith, c .before .before .reply-with .ensures .0)) (c .before .before .reply-with .ensures .1)))

@@ -1,6 +1,6 @@
 -- Opens a parlour.
 use mathlib.Core.Path.{sym, _∙_}
-use Rattle.line.proofs.Replying.{given-byte, count-range, opening-bad, opening-done}
+use Rattle.line.proofs.Replying.{replied-byte, count-range, opening-bad, opening-done}
 use borrow.Author.Needs.{needs}
 use Rattle.line.proofs.open.Statement.{statement}
 use Rattle.line.proofs.open.Tie as tie
@@ -14,7 +14,7 @@ open-spec =
     (λ c κs. search needs)
     (λ c. search needs)
     (λ c. search needs)
-    (λ c. given-byte 0 (opening-done _ _ _ (sym (c .before .before .before .before .before .before .before .before .before .is-count .ensures) ∙ c .before .before .before .before .before .before .before .before .if1 .taken) (c .before .before .before .before .before .before .open-parlour .ensures)) (c .before .before .reply-byte .ensures))
+    (λ c. replied-byte _ 0 (opening-done _ _ _ (sym (c .before .before .before .before .before .before .before .before .before .is-count .ensures) ∙ c .before .before .before .before .before .before .before .before .if1 .taken) (c .before .before .before .before .before .before .open-parlour .ensures)) (c .before .before .reply-byte .ensures))
     (λ c κs. search needs)
     (λ c. search needs)
-    (λ c. given-byte 1 (opening-bad _ _ (sym (c .before .before .before .before .before .is-count .ensures) ∙ c .before .before .before .before .if1 .left)) (c .before .before .reply-byte2 .ensures)))
+    (λ c. replied-byte _ 1 (opening-bad _ _ (sym (c .before .before .before .before .before .is-count .ensures) ∙ c .before .before .before .before .if1 .left)) (c .before .before .reply-byte2 .ensures)))

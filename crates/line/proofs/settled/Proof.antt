@@ -3,7 +3,7 @@ use mathlib.Core.Path.{sym, _∙_}
 use mathlib.Core.List.{_∷_}
 use native.Mathlib.Omega.{arith}
 use Rattle.image.specs.Layout.{largest}
-use Rattle.line.proofs.Replying.{given-byte, given-bytes, stall-of}
+use Rattle.line.proofs.Replying.{replied-byte, replied-bytes, stall-of}
 use Rattle.line.proofs.Lent.{lent-long}
 use Rattle.line.proofs.AtStall.{stall-fits, stall-heads}
 use Rattle.line.proofs.SettledLine.{settling-bad, settling-code, counts-long, settling-refused, settling-done}
@@ -19,7 +19,7 @@ settled-spec =
     (λ c κs. search needs)
     (λ c κs. search needs)
     (λ c. search needs)
-    (λ c. given-byte 3 (settling-bad _ _ (sym (c .before .before .before .before .before .bad-stall .ensures) ∙ c .before .before .before .before .if1 .taken)) (c .before .before .reply-byte .ensures))
+    (λ c. replied-byte _ 3 (settling-bad _ _ (sym (c .before .before .before .before .before .bad-stall .ensures) ∙ c .before .before .before .before .if1 .taken)) (c .before .before .reply-byte .ensures))
     (λ c κs. stall-of _ _ (sym (c .before .bad-stall .ensures) ∙ c .if1 .left) .from)
     (λ c κs. search needs)
     (λ c κs. search needs)
@@ -33,9 +33,9 @@ settled-spec =
     (λ c. omega (arith, settling-code (record { opened = c .before .before .before .before .before .before .before .before .before .before .before .before .before .before .pre; good = sym (c .before .before .before .before .before .before .before .before .before .before .bad-stall .ensures) ∙ c .before .before .before .before .before .before .before .before .before .if1 .left; stands = c .before .before .before .before .before .before .before .before .place-of .ensures; long = c .before .before .before .before .before .before .length-of .ensures; m-is = c .before .before .before .before .before .before .before .wide .ensures .0 }) (c .before .before .before .wilbryn-settled .ensures) (c .before .before .before .wilbryn-settled .kept .1 .0)))
     (λ c κs. search needs)
     (λ c. search needs)
-    (λ c. given-byte _ (settling-refused (record { opened = c .before .before .before .before .before .before .before .before .before .before .before .before .before .before .before .before .before .pre; good = sym (c .before .before .before .before .before .before .before .before .before .before .before .before .before .bad-stall .ensures) ∙ c .before .before .before .before .before .before .before .before .before .before .before .before .if1 .left; stands = c .before .before .before .before .before .before .before .before .before .before .before .place-of .ensures; long = c .before .before .before .before .before .before .before .before .before .length-of .ensures; m-is = c .before .before .before .before .before .before .before .before .before .before .wide .ensures .0 }) (c .before .before .before .before .before .before .wilbryn-settled .ensures) (c .before .before .before .before .before .before .wilbryn-settled .kept .1 .0) (c .before .before .before .before .if2 .taken)) (c .before .before .reply-byte2 .ensures))
+    (λ c. replied-byte _ _ (settling-refused (record { opened = c .before .before .before .before .before .before .before .before .before .before .before .before .before .before .before .before .before .pre; good = sym (c .before .before .before .before .before .before .before .before .before .before .before .before .before .bad-stall .ensures) ∙ c .before .before .before .before .before .before .before .before .before .before .before .before .if1 .left; stands = c .before .before .before .before .before .before .before .before .before .before .before .place-of .ensures; long = c .before .before .before .before .before .before .before .before .before .length-of .ensures; m-is = c .before .before .before .before .before .before .before .before .before .before .wide .ensures .0 }) (c .before .before .before .before .before .before .wilbryn-settled .ensures) (c .before .before .before .before .before .before .wilbryn-settled .kept .1 .0) (c .before .before .before .before .if2 .taken)) (c .before .before .reply-byte2 .ensures))
     (λ c. counts-long (record { opened = c .before .before .before .before .before .before .before .before .before .before .before .before .before .before .pre; good = sym (c .before .before .before .before .before .before .before .before .before .before .bad-stall .ensures) ∙ c .before .before .before .before .before .before .before .before .before .if1 .left; stands = c .before .before .before .before .before .before .before .before .place-of .ensures; long = c .before .before .before .before .before .before .length-of .ensures; m-is = c .before .before .before .before .before .before .before .wide .ensures .0 }) (c .before .before .before .wilbryn-settled .ensures) (c .before .before .before .wilbryn-settled .kept .1 .0) .1)
     (λ c. counts-long (record { opened = c .before .before .before .before .before .before .before .before .before .before .before .before .before .before .before .pre; good = sym (c .before .before .before .before .before .before .before .before .before .before .before .bad-stall .ensures) ∙ c .before .before .before .before .before .before .before .before .before .before .if1 .left; stands = c .before .before .before .before .before .before .before .before .before .place-of .ensures; long = c .before .before .before .before .before .before .before .length-of .ensures; m-is = c .before .before .before .before .before .before .before .before .wide .ensures .0 }) (c .before .before .before .before .wilbryn-settled .ensures) (c .before .before .before .before .wilbryn-settled .kept .1 .0) .0)
     (λ c κs. omega (arith, counts-long (record { opened = c .before .before .before .before .before .before .before .before .before .before .before .before .before .before .before .pre; good = sym (c .before .before .before .before .before .before .before .before .before .before .before .bad-stall .ensures) ∙ c .before .before .before .before .before .before .before .before .before .before .if1 .left; stands = c .before .before .before .before .before .before .before .before .before .place-of .ensures; long = c .before .before .before .before .before .before .before .length-of .ensures; m-is = c .before .before .before .before .before .before .before .before .wide .ensures .0 }) (c .before .before .before .before .wilbryn-settled .ensures) (c .before .before .before .before .wilbryn-settled .kept .1 .0) .0, stall-heads (record { opened = c .before .before .before .before .before .before .before .before .before .before .before .before .before .before .before .pre; good = sym (c .before .before .before .before .before .before .before .before .before .before .before .bad-stall .ensures) ∙ c .before .before .before .before .before .before .before .before .before .before .if1 .left; stands = c .before .before .before .before .before .before .before .before .before .place-of .ensures; long = c .before .before .before .before .before .before .before .length-of .ensures; m-is = c .before .before .before .before .before .before .before .before .wide .ensures .0 }), c .before .before .before .before .before .before .before .before .before .before .before .before .before .before .before .pre .room))
     (λ c. search needs)
-    (λ c. given-bytes (0 ∷ _) (settling-done (record { opened = c .before .before .before .before .before .before .before .before .before .before .before .before .before .before .before .before .before .before .pre; good = sym (c .before .before .before .before .before .before .before .before .before .before .before .before .before .before .bad-stall .ensures) ∙ c .before .before .before .before .before .before .before .before .before .before .before .before .before .if1 .left; stands = c .before .before .before .before .before .before .before .before .before .before .before .before .place-of .ensures; long = c .before .before .before .before .before .before .before .before .before .before .length-of .ensures; m-is = c .before .before .before .before .before .before .before .before .before .before .before .wide .ensures .0 }) (c .before .before .before .before .before .before .before .wilbryn-settled .ensures) (c .before .before .before .before .before .before .before .wilbryn-settled .kept .1 .0) (c .before .before .before .before .before .if2 .left)) (omega (arith, c .before .before .reply-bytes .ensures .0)) (c .before .before .reply-bytes .ensures .1)))
+    (λ c. replied-bytes _ (0 ∷ _) (settling-done (record { opened = c .before .before .before .before .before .before .before .before .before .before .before .before .before .before .before .before .before .before .pre; good = sym (c .before .before .before .before .before .before .before .before .before .before .before .before .before .before .bad-stall .ensures) ∙ c .before .before .before .before .before .before .before .before .before .before .before .before .before .if1 .left; stands = c .before .before .before .before .before .before .before .before .before .before .before .before .place-of .ensures; long = c .before .before .before .before .before .before .before .before .before .before .length-of .ensures; m-is = c .before .before .before .before .before .before .before .before .before .before .before .wide .ensures .0 }) (c .before .before .before .before .before .before .before .wilbryn-settled .ensures) (c .before .before .before .before .before .before .before .wilbryn-settled .kept .1 .0) (c .before .before .before .before .before .if2 .left)) (omega (arith, c .before .before .reply-bytes .ensures .0)) (c .before .before .reply-bytes .ensures .1)))
