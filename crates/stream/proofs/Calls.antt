@@ -8,8 +8,9 @@ use lib.Dec.{leb, eqb}
 use lib.ListN.{length, take}
 use Rattle.image.proofs.Passing.{and-holds}
 use Rattle.line.specs.Parlour.{stateLength}
+use Rattle.stream.specs.Stream.{lastOutput}
 use Rattle.stream.specs.Kept.{longestLine}
-use Rattle.stream.specs.Call.{room, isReady, Ready, Taken, FeedIn, FeedCall, LastAnswers, FinishIn, FinishCall}
+use Rattle.stream.specs.Call.{room, isReady, Ready, ending, putFrom, Taken, FeedIn, FeedCall, finishCall}
 use Rattle.stream.specs.declared.Fed.{Fed}
 
 module _ {state text : List ℕ} {kept : ℕ} {out : List ℕ} where
@@ -43,12 +44,11 @@ module _ {state text : List ℕ} {kept : ℕ} {out : List ℕ} where
   pub feed-nothing : {block : List ℕ} → isReady state text kept out ≡ false → FeedCall state text kept block out (record { taken = 0; kept = kept; end = 0 }) state text out
   feed-nothing {block} e = record { fed-is = subst (FeedIn state text kept block out _ state text out) (sym e) (refl, refl, refl, refl) }
 
-  module _ {end : ℕ} {state′ out′ : List ℕ} where
-    pub finish-last : isReady state text kept out ≡ true → LastAnswers state (take kept text) out end state′ out′ → FinishCall state text kept out end state′ out′
-    finish-last e w = record { finished = subst (FinishIn state text kept out end state′ out′) (sym e) w }
+module _ (state text : List ℕ) (kept : ℕ) (out : List ℕ) where
+  pub finish-last : isReady state text kept out ≡ true → finishCall state text kept out ≡ putFrom out 0 (lastOutput state (take kept text))
+  unfolding finishCall
+  finish-last e = rw e
 
-    pub last-of : Ready state text kept out → FinishCall state text kept out end state′ out′ → LastAnswers state (take kept text) out end state′ out′
-    last-of r w = subst (FinishIn state text kept out end state′ out′) (is-ready r) (w .finished)
-
-  pub finish-nothing : isReady state text kept out ≡ false → FinishCall state text kept out 0 state out
-  finish-nothing e = record { finished = subst (FinishIn state text kept out 0 state out) (sym e) (refl, refl, refl) }
+  pub finish-nothing : isReady state text kept out ≡ false → finishCall state text kept out ≡ ending 0 state out
+  unfolding finishCall
+  finish-nothing e = rw e

@@ -10,9 +10,9 @@ use borrow.Author.Tests.{lt-ltb, le-ltb}
 use lib.Dec.{eqb}
 use lib.ListN.{length, take, set, length-set, length-append}
 use lib.Seq.{take-all, take-take, take-append-le, take-suc-set, length-take-le}
-use Rattle.stream.specs.Stream.{newline, emptyState, Stream, lineAfter, Last, Whole}
+use Rattle.stream.specs.Stream.{newline, followed, output, lineAfter, lastOutput}
 use Rattle.stream.specs.Kept.{longestLine, Kept, keptLine, withByte, begun, keptAfter}
-use Rattle.stream.proofs.Streams.{Alike, take-snoc, stream-append, stream-alike, last-alike}
+use Rattle.stream.proofs.Streams.{Alike, take-snoc, output-append, output-alike, last-alike}
 
 -- a run of 9 bytes, no more of them kept than there are
 pub record Fits (k : Kept) : Type 0 where
@@ -91,22 +91,17 @@ unfolding keptAfter
 kept-append k [] n = refl
 kept-append k (b ∷ m) n = kept-append (cond (eqb b newline) (begun k) (withByte k b)) m n
 
--- a stream goes on from what was kept
-pub stream-join : {state m a middle n c state′ : List ℕ} {k next : Kept} → Fits k → Stream state (keptLine k) m a middle → next ≡ keptAfter k m → Stream middle (keptLine next) n c state′
-    → Stream state (keptLine k) (m ++ n) (a ++ c) state′
-stream-join {m = m} {k = k} fits v e w = stream-append v (stream-alike _ (ap (λ x. take longestLine (keptLine x)) e ∙ kept-alike k m fits) w)
+-- an input goes on from what was kept
+pub output-join : (m n state : List ℕ) {k next : Kept} → Fits k → next ≡ keptAfter k m → let first = output state (keptLine k) m in
+    followed first (output (first .state) (keptLine next) n) ≡ output state (keptLine k) (m ++ n)
+output-join m n state {k} {next} fits e =
+    let first = output state (keptLine k) m in
+    ap (followed first) (output-alike n (first .state) (keptLine next) (lineAfter (keptLine k) m) (ap (λ x. take longestLine (keptLine x)) e ∙ kept-alike k m fits))
+    ∙ sym (output-append m n state (keptLine k))
 
 -- and so does its end
-pub whole-of : {input before middle last state : List ℕ} {k next : Kept} → Fits k → k .count ≡ 0 → Stream emptyState [] input before middle → next ≡ keptAfter k input
-    → Last middle (keptLine next) last state → Whole input (before ++ last) state
-whole-of {input} {before} {middle} {last} {k = k} fits none v e w =
+pub last-kept : (input state : List ℕ) {k next : Kept} → Fits k → k .count ≡ 0 → next ≡ keptAfter k input → lastOutput state (keptLine next) ≡ lastOutput state (lineAfter [] input)
+last-kept input state {k} {next} fits none e =
     let begins : keptLine k ≡ take longestLine [] = ap (λ n. take n (k .text)) none in
-    record {
-      before = before;
-      last = last;
-      middle = middle;
-      stream = v;
-      end = last-alike (lineAfter [] input)
-          (ap (λ x. take longestLine (keptLine x)) e ∙ ap (take longestLine) (line-kept k [] input fits begins) ∙ take-take longestLine longestLine (lineAfter [] input) (omega arith)) w;
-      answers-are = refl;
-    }
+    last-alike state (keptLine next) (lineAfter [] input)
+    (ap (λ x. take longestLine (keptLine x)) e ∙ ap (take longestLine) (line-kept k [] input fits begins) ∙ take-take longestLine longestLine (lineAfter [] input) (omega arith))

@@ -1,37 +1,35 @@
--- Streams one after the other, and lines that begin with the same 9 bytes.
+-- Inputs one after the other, and lines that begin with the same 9 bytes.
 use Prim.Native.Nat.{ℕ, _≤_}
-use mathlib.Core.Path.{_≡_, sym, ap, subst, _∙_}
+use mathlib.Core.Path.{_≡_, refl, sym, ap, ap₂, _∙_}
 use mathlib.Core.Bool.{cond}
 use mathlib.Core.List.{List, [], _∷_, _++_, append-assoc}
 use native.Mathlib.Omega.{arith}
-use native.Mathlib.Decide.{decLe}
-use borrow.Author.Tests.{ne-eqb}
+use native.Mathlib.Decide.{ℕ-discrete, decLe}
+use borrow.Author.Tests.{eq-eqb, ne-eqb}
+use lib.Dec.{eqb}
 use lib.ListN.{length, take}
 use lib.Seq.{take-all, take-take, take-append-le, length-take-le}
 use Rattle.line.specs.Frame.{frameOf}
 use Rattle.line.specs.Parlour.{isOpen}
-use Rattle.line.specs.Answer.{Replies}
+use Rattle.line.specs.Answer.{replyTo}
 use Rattle.line.proofs.Parsing.{other-length}
-use Rattle.stream.specs.Stream.{newline, answerTo, Stream, nothing, another, ended, lineAfter, Last, none, answered}
+use Rattle.stream.specs.Stream.{newline, answerText, followed, lineOutput, output, lineAfter, lastOutput}
 use Rattle.stream.specs.Kept.{longestLine}
 
--- one byte more of a line, after any byte but a newline
-pub onward : (line : List ℕ) (b : ℕ) (input : List ℕ) → (b ≡ newline → ⊥) → lineAfter line (b ∷ input) ≡ lineAfter (line ++ (b ∷ [])) input
-unfolding lineAfter
-onward line b input f = ap (λ t. cond t (lineAfter [] input) (lineAfter (line ++ (b ∷ [])) input)) (ne-eqb b newline f)
-
--- one stream after another is a stream: so what blocks leave, the whole input leaves
-pub stream-append : {state line m a middle n c state′ : List ℕ} → Stream state line m a middle → Stream middle (lineAfter line m) n c state′
-    → Stream state line (m ++ n) (a ++ c) state′
-unfolding lineAfter
-stream-append nothing t = t
-stream-append {state} {line} {middle = middle} {n} {c} {state′} (another {input = m} {answers = a} {b = b} f s) t =
-    another f
-    (stream-append {state = state} {line = line ++ (b ∷ [])} {m = m} {a = a} {middle = middle} {n = n} {c = c} {state′ = state′} s
-    (subst (λ l. Stream middle l n c state′) (onward line b m f) t))
-stream-append {state} {line} {middle = middle} {n} {c} {state′} (ended {input = m} {answers = a} reply r s) t =
-    subst (λ l. Stream state line (newline ∷ m ++ n) l state′) (sym (append-assoc (answerTo reply) a c))
-    (ended reply r (stream-append {state = reply .state} {line = []} {m = m} {a = a} {middle = middle} {n = n} {c = c} {state′ = state′} s t))
+-- one input after another: so what blocks leave, the whole input leaves
+pub output-append : (m n state line : List ℕ) → let first = output state line m in output state line (m ++ n) ≡ followed first (output (first .state) (lineAfter line m) n)
+unfolding output lineAfter
+output-append [] n state line = refl
+output-append (b ∷ m) n state line = elim (ℕ-discrete b newline) [
+  | yes e ↦
+      let first = lineOutput state line in
+      let more = output (first .state) [] m in
+      let next = output (more .state) (lineAfter [] m) n in
+      rw (eq-eqb b newline e)
+      (ap (followed first) (output-append m n (first .state) [])
+      ∙ ap (λ a. record { answers = a; state = next .state }) (sym (append-assoc (first .answers) (more .answers) (next .answers))))
+  | no f ↦ rw (ne-eqb b newline f) (output-append m n state (line ++ (b ∷ [])))
+]
 
 -- 9 bytes of a line have the frame of the whole line
 frame-kept : (line : List ℕ) → frameOf (take longestLine line) ≡ frameOf line
@@ -62,15 +60,20 @@ take-snoc n l b = elim (decLe (length l) n) [
 alike-snoc : (l m : List ℕ) (b : ℕ) → Alike l m → Alike (l ++ (b ∷ [])) (m ++ (b ∷ []))
 alike-snoc l m b e = sym (take-snoc longestLine l b) ∙ ap (λ x. take longestLine (x ++ (b ∷ []))) e ∙ take-snoc longestLine m b
 
--- they have the same answers
-pub stream-alike : {state l input answers state′ : List ℕ} (m : List ℕ) → Alike l m → Stream state l input answers state′ → Stream state m input answers state′
-stream-alike m e nothing = nothing
-stream-alike {l = l} m e (another {b = b} f s) = another f (stream-alike (m ++ (b ∷ [])) (alike-snoc l m b e) s)
-stream-alike {state} {l} m e (ended reply r s) = ended reply (subst (λ f. Replies state (isOpen state) f reply) (frame-alike l m e) r) s
+-- they have the same output
+line-alike : (state l m : List ℕ) → Alike l m → lineOutput state l ≡ lineOutput state m
+unfolding lineOutput
+line-alike state l m e = ap (λ f. let reply = replyTo state (isOpen state) f in record { answers = answerText (reply .bytes); state = reply .state }) (frame-alike l m e)
 
-pub last-alike : {state l answers state′ : List ℕ} (m : List ℕ) → Alike l m → Last state l answers state′ → Last state m answers state′
-last-alike [] e none = none
-last-alike (b ∷ m) e none = let z : _≡_ {A = ℕ} 0 1 = cc in absurd (omega arith)
-last-alike [] e (answered reply r) = let z : _≡_ {A = ℕ} 0 1 = cc in absurd (omega arith)
-last-alike {state} (c ∷ m) e (answered {line = line} {b = b} reply r) =
-    answered reply (subst (λ f. Replies state (isOpen state) f reply) (frame-alike (b ∷ line) (c ∷ m) e) r)
+pub output-alike : (input state l m : List ℕ) → Alike l m → output state l input ≡ output state m input
+unfolding output
+output-alike [] state l m e = refl
+output-alike (b ∷ input) state l m e =
+    ap₂ (cond (eqb b newline)) (ap (λ first. followed first (output (first .state) [] input)) (line-alike state l m e))
+    (output-alike input state (l ++ (b ∷ [])) (m ++ (b ∷ [])) (alike-snoc l m b e))
+
+pub last-alike : (state l m : List ℕ) → Alike l m → lastOutput state l ≡ lastOutput state m
+last-alike state [] [] e = refl
+last-alike state [] (c ∷ m) e = let z : _≡_ {A = ℕ} 0 1 = cc in absurd (omega arith)
+last-alike state (b ∷ l) [] e = let z : _≡_ {A = ℕ} 0 1 = cc in absurd (omega arith)
+last-alike state (b ∷ l) (c ∷ m) e = line-alike state (b ∷ l) (c ∷ m) e

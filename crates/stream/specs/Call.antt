@@ -1,14 +1,13 @@
 -- The functions of `stream`: what comes back, and what every lent byte holds afterwards.
 use Prim.Native.Nat.{ℕ, _+_, _≤_, _<_}
 use mathlib.Core.Path.{_≡_}
-use mathlib.Core.Bool.{Bool, true, false, _&&_}
+use mathlib.Core.Bool.{Bool, true, false, _&&_, cond}
 use mathlib.Core.List.{List, _++_}
 use lib.Dec.{leb, eqb}
 use lib.ListN.{length, take, drop}
-use Rattle.line.specs.Frame.{frameOf}
-use Rattle.line.specs.Parlour.{stateLength, isOpen}
-use Rattle.line.specs.Answer.{Reply, Replies, longestAnswer}
-use Rattle.stream.specs.Stream.{answerTo, Stream, Last}
+use Rattle.line.specs.Parlour.{stateLength}
+use Rattle.line.specs.Answer.{longestAnswer}
+use Rattle.stream.specs.Stream.{Output, output, lastOutput}
 use Rattle.stream.specs.Kept.{longestLine, Kept, keptLine, keptAfter}
 use Rattle.stream.specs.declared.Fed.{Fed}
 
@@ -27,21 +26,23 @@ pub record Ready (state text : List ℕ) (kept : ℕ) (out : List ℕ) : Type 0 
   pub kept-to : kept ≤ longestLine
   pub out-long : room ≤ length out
 
--- one line answered from a place of a buffer on, that no newline need have ended
-pub record LineAnswered (state line out : List ℕ) (at end : ℕ) (state′ out′ : List ℕ) : Type 0 where
-  pub reply : Reply
-  pub replies : Replies state (isOpen state) (frameOf line) reply
-  pub state-is : state′ ≡ reply .state
-  pub ends : end ≡ at + length (answerTo reply)
-  pub out-is : out′ ≡ take at out ++ answerTo reply ++ drop end out
+-- where the answers end, and every byte of the state and of the buffer afterwards
+pub record StreamOutcome : Type 0 where
+  pub end : ℕ
+  pub state : List ℕ
+  pub out : List ℕ
 
--- some input answered from a place of a buffer on, which comes back as the answers' end
+abbrev pub ending : ℕ → List ℕ → List ℕ → StreamOutcome
+ending end state out = record { end = end; state = state; out = out }
+
+-- answers from a place of a buffer on, the rest of it as it was
+abbrev pub putFrom : List ℕ → ℕ → Output → StreamOutcome
+putFrom out at o = let end = at + length (o .answers) in ending end (o .state) (take at out ++ o .answers ++ drop end out)
+
+-- some input answered from a place of a buffer on, and what is then kept of the line
 pub record Answers (state : List ℕ) (kept : Kept) (input out : List ℕ) (at end : ℕ) (state′ : List ℕ) (kept′ : Kept) (out′ : List ℕ) : Type 0 where
-  pub answers : List ℕ
-  pub stream : Stream state (keptLine kept) input answers state′
+  pub answered : ending end state′ out′ ≡ putFrom out at (output state (keptLine kept) input)
   pub kept-is : kept′ ≡ keptAfter kept input
-  pub ends : end ≡ at + length answers
-  pub out-is : out′ ≡ take at out ++ answers ++ drop end out
 
 abbrev pub keeping : List ℕ → ℕ → Kept
 keeping text count = record { text = text; count = count }
@@ -64,17 +65,6 @@ FeedIn state text kept block out fed state′ text′ out′ false =
 pub record FeedCall (state text : List ℕ) (kept : ℕ) (block out : List ℕ) (fed : Fed) (state′ text′ out′ : List ℕ) : Type 0 where
   pub fed-is : FeedIn state text kept block out fed state′ text′ out′ (isReady state text kept out)
 
--- the last line answered at the front of a buffer, where the input ends
-pub record LastAnswers (state line out : List ℕ) (end : ℕ) (state′ out′ : List ℕ) : Type 0 where
-  pub answers : List ℕ
-  pub last : Last state line answers state′
-  pub ends : end ≡ length answers
-  pub end-to : end ≤ length out
-  pub out-is : out′ ≡ answers ++ drop end out
-
-abbrev pub FinishIn : List ℕ → List ℕ → ℕ → List ℕ → ℕ → List ℕ → List ℕ → Bool → Type 0
-FinishIn state text kept out end state′ out′ true = LastAnswers state (take kept text) out end state′ out′
-FinishIn state text kept out end state′ out′ false = (end ≡ 0) × (state′ ≡ state) × (out′ ≡ out)
-
-pub record FinishCall (state text : List ℕ) (kept : ℕ) (out : List ℕ) (end : ℕ) (state′ out′ : List ℕ) : Type 0 where
-  pub finished : FinishIn state text kept out end state′ out′ (isReady state text kept out)
+-- the last line answered at the front of a buffer, where the input ends; with other buffers nothing is, and every byte is as it was
+unfoldable pub finishCall : List ℕ → List ℕ → ℕ → List ℕ → StreamOutcome
+finishCall state text kept out = cond (isReady state text kept out) (putFrom out 0 (lastOutput state (take kept text))) (ending 0 state out)

@@ -4,8 +4,9 @@ ghost use Prim.Native.Nat.{_+_, _≤_};
 ghost use mathlib.Core.List.{[], _∷_};
 ghost use lib.ListN.{length, take};
 ghost use Rattle.line.specs.Parlour.{stateLength};
+ghost use Rattle.stream.specs.Stream.{lineOutput, lastOutput};
 ghost use Rattle.stream.specs.Kept.{longestLine, withByte};
-ghost use Rattle.stream.specs.Call.{room, isReady, Ready, LineAnswered, Answers, keeping, Taken, FeedCall, LastAnswers, FinishCall};
+ghost use Rattle.stream.specs.Call.{room, isReady, Ready, ending, putFrom, Answers, keeping, Taken, FeedCall, finishCall};
 use line::ANSWER;
 use line::STATE;
 
@@ -52,7 +53,7 @@ fn answer_line(state: &mut [u8], text: &[u8], out: &mut [u8], at: usize) -> usiz
     requires { ⌜ (length (now state) ≡ stateLength) × (at + room ≤ length (now out)) ⌝ }
     ensures { λ r.
         ⌜ (r ≤ at + room)
-        × LineAnswered (now (state .entry)) (now (text .entry)) (now (out .entry)) at r (now (state .exit)) (now (out .exit)) ⌝ }
+        × (ending r (now (state .exit)) (now (out .exit)) ≡ putFrom (now (out .entry)) at (lineOutput (now (state .entry)) (now (text .entry)))) ⌝ }
 {
     let end = at + ANSWER;
     let count = line::answer(state, text, &mut out[at..end]);
@@ -134,7 +135,7 @@ pub fn feed(state: &mut [u8], text: &mut [u8], kept: usize, block: &[u8], out: &
 // The last line, if bytes of one are kept.
 fn last_line(state: &mut [u8], text: &[u8], kept: usize, out: &mut [u8]) -> usize
     requires { ⌜ Ready (now state) (now text) kept (now out) ⌝ }
-    ensures { λ r. ⌜ LastAnswers (now (state .entry)) (take kept (now (text .entry))) (now (out .entry)) r (now (state .exit)) (now (out .exit)) ⌝ }
+    ensures { λ r. ⌜ ending r (now (state .exit)) (now (out .exit)) ≡ putFrom (now (out .entry)) 0 (lastOutput (now (state .entry)) (take kept (now (text .entry)))) ⌝ }
 {
     if kept == 0 {
         return 0;
@@ -145,7 +146,7 @@ fn last_line(state: &mut [u8], text: &[u8], kept: usize, out: &mut [u8]) -> usiz
 // Answers a last line that no newline ended, at the front of out, and says how long the answer is: 0 where nothing is kept of one,
 // or the lent runs are not as feed wants them.
 pub fn finish(state: &mut [u8], text: &[u8], kept: usize, out: &mut [u8]) -> usize
-    ensures { λ r. ⌜ FinishCall (now (state .entry)) (now (text .entry)) kept (now (out .entry)) r (now (state .exit)) (now (out .exit)) ⌝ }
+    ensures { λ r. ⌜ ending r (now (state .exit)) (now (out .exit)) ≡ finishCall (now (state .entry)) (now (text .entry)) kept (now (out .entry)) ⌝ }
 {
     if is_ready(state, text, kept, out) {
         return last_line(state, text, kept, out);

@@ -4,8 +4,6 @@ use Rattle.stream.proofs.Calls.{ready, feed-taken, feed-nothing}
 use borrow.Author.Needs.{needs}
 use Rattle.stream.proofs.feed.Statement.{statement}
 use Rattle.stream.proofs.feed.Tie as tie
-use Rattle.stream.proofs.feed.Reads as reads
-use Rattle.stream.proofs.feed.Lts as lts
 
 feed-all-requires : tie.Need-feed-all-requires
 feed-all-requires c κs = ready (sym (c .before .before .before .before .is-ready .ensures) ∙ c .before .before .before .if1 .taken)

@@ -10,11 +10,11 @@ last-line-requires c κs = ready (sym (c .before .before .before .is-ready .ensu
 
 returns : tie.Need-returns
 returns c =
-    finish-last (sym (c .before .before .before .before .before .before .before .before .is-ready .ensures) ∙ c .before .before .before .before .before .before .before .if1 .taken)
-    (c .before .before .before .before .last-line .ensures)
+    c .before .before .before .before .last-line .ensures
+    ∙ sym (finish-last _ _ _ _ (sym (c .before .before .before .before .before .before .before .before .is-ready .ensures) ∙ c .before .before .before .before .before .before .before .if1 .taken))
 
 returns-2 : tie.Need-returns-2
-returns-2 c = finish-nothing (sym (c .before .is-ready .ensures) ∙ c .if1 .left)
+returns-2 c = sym (finish-nothing _ _ _ _ (sym (c .before .is-ready .ensures) ∙ c .if1 .left))
 
 pub finish-spec : {M : Type 1} → statement M
 finish-spec =

@@ -1,26 +1,27 @@
 -- The last line.
 use Prim.Native.Nat.{_≤_}
-use mathlib.Core.Path.{sym, subst}
+use mathlib.Core.Path.{sym, ap, _∙_}
 use lib.ListN.{take}
 use lib.Seq.{length-take-le}
 use native.Mathlib.Omega.{arith}
-use Rattle.stream.specs.Call.{LastAnswers}
-use Rattle.stream.proofs.Buffers.{last-none, last-some}
+use Rattle.stream.specs.Stream.{lastOutput}
+use Rattle.stream.specs.Call.{putFrom}
+use Rattle.stream.proofs.Buffers.{put-nothing, last-some}
 use borrow.Author.Needs.{needs}
 use Rattle.stream.proofs.last_line.Statement.{statement}
 use Rattle.stream.proofs.last_line.Tie as tie
 
 returns : tie.Need-returns
 returns c =
-    let start = c .before .before .before .before in
-    subst (λ k. LastAnswers (start .args .state .now) (take k (start .args .text .now)) (start .args .out .now) 0 (start .args .state .now) (start .args .out .now)) (sym (c .if1 .taken)) last-none
+    let a = c .before .before .before .before .args in
+    put-nothing (a .out .now) 0 (a .state .now) ∙ ap (λ k. putFrom (a .out .now) 0 (lastOutput (a .state .now) (take k (a .text .now)))) (sym (c .if1 .taken))
 
 returns-2 : tie.Need-returns-2
 returns-2 c =
-    let start = c .before .before .before .before .before .before .before .before .before .before .before .before in
-    let some : 1 ≤ start .args .kept = omega (arith, c .before .before .before .before .before .before .before .before .if1 .left) in
-    last-some (take (start .args .kept) (start .args .text .now)) (omega (arith, length-take-le (start .args .kept) (start .args .text .now) (omega arith)))
-    (omega (arith, c .before .before .before .before .answer-line .ensures .0)) (c .before .before .before .before .answer-line .ensures .1)
+    let a = c .before .before .before .before .before .before .before .before .before .before .before .before .args in
+    let some : 1 ≤ a .kept = omega (arith, c .before .before .before .before .before .before .before .before .if1 .left) in
+    c .before .before .before .before .answer-line .ensures .1
+    ∙ ap (putFrom (a .out .now) 0) (last-some (a .state .now) (take (a .kept) (a .text .now)) (omega (arith, length-take-le (a .kept) (a .text .now) (omega arith))))
 
 pub last-line-spec : {M : Type 1} → statement M
 last-line-spec =
