@@ -1,11 +1,12 @@
 -- The functions of `stream`, by the lengths of what they are lent.
-use Prim.Native.Nat.{ℕ}
-use mathlib.Core.Path.{_≡_, refl, sym, subst}
+use Prim.Native.Nat.{ℕ, _+_, _≤_}
+use mathlib.Core.Path.{_≡_, refl, sym, ap, subst, _∙_}
 use mathlib.Core.Bool.{true, false, _&&_}
 use mathlib.Core.List.{List}
+use native.Mathlib.Omega.{arith}
 use borrow.Author.Tests.{eq-eqb, eqb-true, le-leb, leb-true}
 use lib.Dec.{leb, eqb}
-use lib.ListN.{length, take}
+use lib.ListN.{length, take, drop, length-append}
 use Rattle.image.proofs.Passing.{and-holds}
 use Rattle.line.specs.Parlour.{stateLength}
 use Rattle.stream.specs.Stream.{lastOutput}
@@ -52,3 +53,13 @@ module _ (state text : List ℕ) (kept : ℕ) (out : List ℕ) where
   pub finish-nothing : isReady state text kept out ≡ false → finishCall state text kept out ≡ ending 0 state out
   unfolding finishCall
   finish-nothing e = rw e
+
+-- what a caller with the right runs learns
+module _ {state text : List ℕ} {kept : ℕ} {out : List ℕ} {end : ℕ} {state′ out′ : List ℕ} (r : Ready state text kept out) (w : ending end state′ out′ ≡ finishCall state text kept out) where
+  pub last-of : ending end state′ out′ ≡ putFrom out 0 (lastOutput state (take kept text))
+  last-of = w ∙ finish-last state text kept out (is-ready r)
+
+  pub end-within : end ≤ length out′
+  end-within =
+      let said = lastOutput state (take kept text) .answers in
+      omega (arith, ap (λ o. o .end) last-of, ap (λ o. length (o .out)) last-of, length-append said (drop (0 + length said) out))

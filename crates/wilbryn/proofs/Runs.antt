@@ -1,13 +1,13 @@
 -- One turn more of a run.
 use Prim.Native.Nat.{ℕ, min}
-use mathlib.Core.Path.{_≡_, refl, sym, subst, subst₂}
+use mathlib.Core.Path.{_≡_, refl, sym, ap, subst, subst₂, _∙_}
 use mathlib.Core.Logic.{inl, inr}
 use mathlib.Core.List.{List, [], _∷_, _++_}
 use lib.IntN.{ℤ, pos, negsuc}
 use lib.ListN.{length, take}
-use Rattle.stream.specs.Stream.{emptyState}
+use Rattle.stream.specs.Stream.{emptyState, output, lastOutput}
 use Rattle.stream.specs.Call.{keeping}
-use Rattle.stream.proofs.Keeping.{Fits, whole-of}
+use Rattle.stream.proofs.Keeping.{Fits, last-kept}
 use Rattle.wilbryn.specs.Turn.{Went, LastWent, AfterBlock, AfterRead, TurnTaken, Gone, Ended, Ran}
 use Rattle.wilbryn.specs.declared.Turn.{Turn}
 use Rattle.wilbryn.specs.declared.Turn.the-variants.{More, Over, Unread, Unwritten}
@@ -25,8 +25,10 @@ module _ {text state₁ text₁ : List ℕ} {kept₁ : ℕ} (fits : Fits (keepin
   ended w =
       record {
         input = before .input;
-        answers = _;
-        whole = whole-of fits refl (before .went .stream) (before .went .kept-is) (w .last .last);
+        state-is =
+            ap (λ o. o .state) (w .last)
+            ∙ ap (λ s. lastOutput s (take kept₁ text₁) .state) (before .went .state-is)
+            ∙ ap (λ o. o .state) (last-kept (before .input) (output emptyState [] (before .input) .state) fits refl (before .went .kept-is));
       }
 
   -- by what the read brought

@@ -13,11 +13,11 @@ use mir.Syntax.{w64}
 use mir.Val.{SFits, toZ, ofZ}
 use mir.ValLaws.{toZ-ofZ}
 use Rattle.io.specs.Counts.{clamped}
-use Rattle.stream.specs.Stream.{nothing}
+use Rattle.stream.specs.Stream.{output}
 use Rattle.stream.specs.Kept.{longestLine, keptAfter}
 use Rattle.stream.specs.Call.{keeping, Ready, Answers, FeedCall}
 use Rattle.stream.specs.declared.Fed.{Fed}
-use Rattle.stream.proofs.Keeping.{Fits, kept-append, stream-join}
+use Rattle.stream.proofs.Keeping.{Fits, kept-append, output-join}
 use Rattle.stream.proofs.Calls.{taken-of}
 use Rattle.wilbryn.specs.Turn.{Went, AfterSome, BlockAnswered, RestAnswered, AfterBlock, ReadAnswered}
 use Rattle.wilbryn.specs.declared.Turn.{Turn}
@@ -29,15 +29,14 @@ rest-long block at = length-take-le (length block - at) (drop at block) (omega (
 
 -- nothing yet, one piece more, all of it
 pub went-start : {state text : List ℕ} {kept : ℕ} → Went state text kept [] state text kept
-unfolding keptAfter
-went-start = record { answers = []; stream = nothing; kept-is = refl }
+unfolding output keptAfter
+went-start = record { state-is = refl; kept-is = refl }
 
 pub went-append : {state text m n : List ℕ} {kept kept₁ kept₂ : ℕ} {state₁ text₁ state₂ text₂ : List ℕ} → Fits (keeping text kept)
     → Went state text kept m state₁ text₁ kept₁ → Went state₁ text₁ kept₁ n state₂ text₂ kept₂ → Went state text kept (m ++ n) state₂ text₂ kept₂
-went-append {text = text} {m} {n} {kept} fits v w =
+went-append {state} {text} {m} {n} {kept} {kept₁} {text₁ = text₁} fits v w =
     record {
-      answers = v .answers ++ w .answers;
-      stream = stream-join fits (v .stream) (v .kept-is) (w .stream);
+      state-is = w .state-is ∙ ap (λ s. output s (take kept₁ text₁) n .state) (v .state-is) ∙ ap (λ o. o .state) (output-join m n state fits (v .kept-is));
       kept-is = w .kept-is ∙ ap (λ k. keptAfter k n) (v .kept-is) ∙ sym (kept-append (keeping text kept) m n);
     }
 
@@ -48,7 +47,7 @@ went-more : (block : List ℕ) (at count : ℕ) {state text out : List ℕ} {kep
 went-more block at count {state} {text} {kept = kept} {kept₂ = kept₂} {state₂ = state₂} {text₂} fits l v w =
     subst (λ i. Went state text kept i state₂ text₂ kept₂)
     (ap (λ i. take at block ++ i) (take-take count (length block - at) (drop at block) l) ∙ sym (take-add at count block))
-    (went-append fits v (record { answers = w .answers; stream = w .stream; kept-is = w .kept-is }))
+    (went-append fits v (record { state-is = ap (λ o. o .state) (w .answered); kept-is = w .kept-is }))
 
 -- one piece more of a block, by a call of feed that is lent the rest of it
 pub record Piece (state text : List ℕ) (kept : ℕ) (block : List ℕ) (at : ℕ) (out : List ℕ) (fed : Fed) (state′ text′ : List ℕ) : Type 0 where

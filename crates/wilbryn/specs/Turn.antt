@@ -6,9 +6,9 @@ use mathlib.Core.Logic.{_⊎_}
 use mathlib.Core.List.{List, [], _∷_}
 use lib.IntN.{ℤ, pos, negsuc}
 use lib.ListN.{length, take}
-use Rattle.stream.specs.Stream.{emptyState, Stream, Whole}
+use Rattle.stream.specs.Stream.{emptyState, output, lastOutput, wholeOutput}
 use Rattle.stream.specs.Kept.{longestLine, keptAfter}
-use Rattle.stream.specs.Call.{keeping, Ready, LastAnswers}
+use Rattle.stream.specs.Call.{keeping, Ready, ending, putFrom}
 use Rattle.wilbryn.specs.declared.Turn.{Turn}
 use Rattle.wilbryn.specs.declared.Turn.the-variants.{More, Over, Unread, Unwritten}
 
@@ -21,8 +21,7 @@ standardOutput = pos 1
 
 -- some input answered, in as many pieces as it took
 pub record Went (state text : List ℕ) (kept : ℕ) (input state′ text′ : List ℕ) (kept′ : ℕ) : Type 0 where
-  pub answers : List ℕ
-  pub stream : Stream state (take kept text) input answers state′
+  pub state-is : state′ ≡ output state (take kept text) input .state
   pub kept-is : keeping text′ kept′ ≡ keptAfter (keeping text kept) input
 
 -- the front of a block answered, and no more of it
@@ -46,7 +45,7 @@ pub record BlockAnswered (state text : List ℕ) (kept : ℕ) (block state′ te
 -- the end of the input: a last line that lacks its newline is answered
 pub record LastWent (state text : List ℕ) (kept : ℕ) (out state′ text′ out′ : List ℕ) : Type 0 where
   pub end : ℕ
-  pub last : LastAnswers state (take kept text) out end state′ out′
+  pub last : ending end state′ out′ ≡ putFrom out 0 (lastOutput state (take kept text))
   pub same-text : text′ ≡ text
 
 abbrev pub AfterEnd : List ℕ → List ℕ → ℕ → List ℕ → List ℕ → List ℕ → List ℕ → Turn → Type 0
@@ -88,8 +87,7 @@ pub record GoneSome (text state′ text′ : List ℕ) : Type 0 where
 -- and the input is over: its last line is answered too
 pub record Ended (state′ : List ℕ) : Type 0 where
   pub input : List ℕ
-  pub answers : List ℕ
-  pub whole : Whole input answers state′
+  pub state-is : state′ ≡ wholeOutput input .state
 
 -- the whole run, by its last turn; a write that failed may have been that of the last line
 abbrev pub RanTo : List ℕ → List ℕ → List ℕ → Turn → Type 0
