@@ -1,5 +1,5 @@
 -- One line: what it is answered, and what it leaves.
-use Prim.Native.Nat.{ℕ, _-_, _*_, _<_}
+use Prim.Native.Nat.{ℕ, _-_, _*_, _≤_, _<_}
 use mathlib.Core.Path.{_≡_, refl, sym, ap, ap₂, subst, _∙_}
 use mathlib.Core.Bool.{Bool, true, false, cond, true≢false}
 use mathlib.Core.List.{List, [], _∷_, _++_}
@@ -7,17 +7,18 @@ use native.Mathlib.Omega.{arith}
 use borrow.Author.Tests.{eq-eqb, eqb-true, eqb-false, le-leb, lt-ltb}
 use lib.Dec.{leb, eqb}
 use lib.ListN.{length, take, replicate, length-replicate}
+use lib.Seq.{take-at}
 use Rattle.image.specs.Layout.{largest, yieldLimit, isCount}
 use Rattle.image.specs.Check.{badStall}
 use Rattle.image.proofs.Accepted.{checked-accepted}
 use Rattle.head.specs.Calls.{milkingCall}
-use Rattle.head.specs.Heard.{HeardList}
-use Rattle.head.proofs.HeardLists.{heard-few}
+use Rattle.head.specs.Heard.{heardCount, heardBytes, heardList, heardCall}
+use Rattle.head.proofs.HeardLists.{heard-few, length-heardBytes}
 use Rattle.head.proofs.HeardCalls.{heard-accepted}
 use Rattle.head.specs.Settled.{settledCall}
 use Rattle.merge.specs.Call.{meetingCall}
 use Rattle.line.specs.Parlour.{headsOf, imageOf, withImage, freshState}
-use Rattle.line.specs.Answer.{Reply, refusal, answerBytes, opening, milkedBy, milking, meetingOf, meeting, showing, HeardAnswer as LineHeard, settledBy, settling, Replies}
+use Rattle.line.specs.Answer.{Reply, refusal, answerBytes, opening, milkedBy, milking, meetingOf, meeting, showing, heardBy, hearing, settledBy, settling, replyTo}
 use Rattle.line.specs.declared.frame.Frame.{Frame}
 use Rattle.line.specs.declared.frame.Frame.the-variants.{Open, Milking, Meeting, Show, Heard, Settled, Bad}
 use Rattle.line.proofs.Replying.{count-range, stall-of}
@@ -30,8 +31,15 @@ use Rattle.parlour.proofs.Meetings.{meeting-claim, meeting-kept}
 use Rattle.parlour.proofs.Existence.{milking-call, meeting-call}
 use Rattle.settled.proofs.Settling.{answered}
 use Rattle.sessions.specs.Lines.{opens, itemsOf}
-use Rattle.sessions.specs.Answer.{Answer}
+use Rattle.sessions.specs.Answer.{answerTo}
 use Rattle.sessions.proofs.Standing.{Open as IsOpen, kept-agree, kept-long, put-own, put-other, put-agree, placed, is-open, opened}
+
+-- the records of a heard list, without the zeros behind them
+list-bytes : (s : List ℕ) (n own : ℕ) → n ≤ largest → let o = heardList s n own in
+    answerBytes (o .answer) (o .answer ∷ take (3 * o .answer) (o .records)) ≡ 0 ∷ heardCount s n own ∷ heardBytes s n own
+list-bytes s n own l =
+    let few : heardCount s n own < 256 = omega (arith, heard-few s n own) in
+    rw (lt-ltb (heardCount s n own) 256 few, take-at (heardBytes s n own) (replicate (3 * n - 3 * heardCount s n own) 0) (3 * heardCount s n own) (length-heardBytes s n own))
 
 -- while a parlour is open
 module _ (its : List Item.Item) (state : List ℕ) (w : IsOpen (history (headsOf state) its) state) where
@@ -43,7 +51,7 @@ module _ (its : List Item.Item) (state : List ℕ) (w : IsOpen (history (headsOf
 
   -- what a reply says and leaves
   pub record Step (frame : Frame) (reply : Reply) : Type 0 where
-    pub answer : Answer n l frame (reply .bytes)
+    pub answer : reply .bytes ≡ answerTo n l frame
     pub heads : headsOf (reply .state) ≡ n
     pub after : IsOpen (history n (itemsOf n frame ++ its)) (reply .state)
 
@@ -51,7 +59,7 @@ module _ (its : List Item.Item) (state : List ℕ) (w : IsOpen (history (headsOf
   count = rw (le-leb 2 n (w .kept .n-from), le-leb n largest (w .kept .n-to))
 
   -- a reply that changes no byte, for a frame that makes no item
-  stay : (frame : Frame) (bytes : List ℕ) → itemsOf n frame ≡ [] → Answer n l frame bytes → Step frame (record { bytes = bytes; state = state })
+  stay : (frame : Frame) (bytes : List ℕ) → itemsOf n frame ≡ [] → bytes ≡ answerTo n l frame → Step frame (record { bytes = bytes; state = state })
   stay frame bytes e a = record { answer = a; heads = refl; after = subst (λ x. IsOpen (history n (x ++ its)) state) (sym e) w }
 
   show-step : (stall : ℕ) → Step (Show stall) (showing state stall)
@@ -94,24 +102,20 @@ module _ (its : List Item.Item) (state : List ℕ) (w : IsOpen (history (headsOf
       go true e = stay (Milking stall yield) (3 ∷ []) (rw e) (rw (count, e))
       go false e = milked stall yield e
 
-  heard-step : (stall : ℕ) (reply : Reply) → Replies state true (Heard stall) reply → Step (Heard stall) reply
-  unfolding itemsOf
-  heard-step stall reply r = go (badStall n stall) refl r
+  -- the heard list of the stall's head
+  heard-step : (stall : ℕ) → Step (Heard stall) (hearing state stall)
+  unfolding hearing itemsOf
+  heard-step stall = go (badStall n stall) refl
     where
-      go : (t : Bool) → badStall n stall ≡ t → LineHeard state stall reply t → Step (Heard stall) reply
-      go true e d = subst (Step (Heard stall)) (sym d) (stay (Heard stall) (3 ∷ []) refl (rw (count, e) refl))
-      go false e d =
-          let i = stall-of n stall e in
-          let good = w .kept .good stall (i .from) (i .to) in
-          let list = heard-accepted (imageOf state stall) (replicate (3 * n) 0) (checked-accepted good) (length-replicate {A = ℕ} (3 * n) 0) (d .heard) in
-          let few : d .count < 256 = omega (arith, heard-few list, w .kept .n-to) in
-          subst (Step (Heard stall)) (sym (d .replied))
-          (stay (Heard stall) (answerBytes (d .count) (d .count ∷ take (3 * d .count) (d .records))) refl (rw (count, e) (record {
-            count = d .count;
-            records = d .records;
-            heard = subst (λ s. HeardList s n stall (d .count) (d .records)) (w .kept .is stall (i .from) (i .to)) list;
-            bytes-are = rw (lt-ltb (d .count) 256 few);
-          })))
+      go : (t : Bool) → badStall n stall ≡ t → Step (Heard stall) (cond t (refusal state 3) (heardBy state (heardCall (imageOf state stall) (replicate (3 * n) 0))))
+      go true e = stay (Heard stall) (3 ∷ []) refl (rw (count, e))
+      go false e =
+          let r = stall-of n stall e in
+          let good = checked-accepted (w .kept .good stall (r .from) (r .to)) in
+          let said = ap (heardBy state) (heard-accepted (imageOf state stall) (replicate (3 * n) 0) good (length-replicate {A = ℕ} (3 * n) 0)) in
+          stay (Heard stall) (heardBy state (heardCall (imageOf state stall) (replicate (3 * n) 0)) .bytes) refl
+          (rw (count, e) (ap (λ x. x .bytes) said ∙ list-bytes (imageOf state stall) n stall (w .kept .n-to)
+          ∙ ap (λ s. 0 ∷ heardCount s n stall ∷ heardBytes s n stall) (w .kept .is stall (r .from) (r .to))))
 
   -- the numbers of the stall's head
   settled-step : (stall : ℕ) → Step (Settled stall) (settling state stall)
@@ -164,15 +168,15 @@ module _ (its : List Item.Item) (state : List ℕ) (w : IsOpen (history (headsOf
       go false false false e f g = meet-good p q e f g
 
   -- any frame
-  pub open-step : (frame : Frame) (reply : Reply) → Replies state true frame reply → Step frame reply
+  pub open-step : (frame : Frame) → Step frame (replyTo state true frame)
   unfolding itemsOf
-  open-step Bad reply e = subst (Step Bad) (sym e) (stay Bad (10 ∷ []) refl refl)
-  open-step (Open m) reply e = subst (Step (Open m)) (sym e) (stay (Open m) (11 ∷ []) refl (rw count))
-  open-step (Milking stall yield) reply e = subst (Step (Milking stall yield)) (sym e) (milk-step stall yield)
-  open-step (Meeting p q) reply e = subst (Step (Meeting p q)) (sym e) (meet-step p q)
-  open-step (Show stall) reply e = subst (Step (Show stall)) (sym e) (show-step stall)
-  open-step (Heard stall) reply r = heard-step stall reply r
-  open-step (Settled stall) reply e = subst (Step (Settled stall)) (sym e) (settled-step stall)
+  open-step Bad = stay Bad (10 ∷ []) refl refl
+  open-step (Open m) = stay (Open m) (11 ∷ []) refl (rw count)
+  open-step (Milking stall yield) = milk-step stall yield
+  open-step (Meeting p q) = meet-step p q
+  open-step (Show stall) = show-step stall
+  open-step (Heard stall) = heard-step stall
+  open-step (Settled stall) = settled-step stall
 
 fresh-heads : (n : ℕ) → headsOf (freshState n) ≡ n
 unfolding freshState
@@ -182,12 +186,12 @@ fresh-heads n = refl
 module _ (state : List ℕ) (n : ℕ) (none : isCount n ≡ false) where
   -- what a reply says, and what it leaves if it opens nothing
   pub record Shut (frame : Frame) (reply : Reply) : Type 0 where
-    pub answer : Answer n [] frame (reply .bytes)
+    pub answer : reply .bytes ≡ answerTo n [] frame
     pub heads : isCount (opens frame) ≡ true → headsOf (reply .state) ≡ opens frame
     pub opened : isCount (opens frame) ≡ true → IsOpen [] (reply .state)
     pub same : isCount (opens frame) ≡ false → reply .state ≡ state
 
-  stay-shut : (frame : Frame) (bytes : List ℕ) → isCount (opens frame) ≡ false → Answer n [] frame bytes → Shut frame (record { bytes = bytes; state = state })
+  stay-shut : (frame : Frame) (bytes : List ℕ) → isCount (opens frame) ≡ false → bytes ≡ answerTo n [] frame → Shut frame (record { bytes = bytes; state = state })
   stay-shut frame bytes e a =
       record { answer = a; heads = λ c. absurd (true≢false (sym c ∙ e)); opened = λ c. absurd (true≢false (sym c ∙ e)); same = λ c. refl }
 
@@ -207,12 +211,12 @@ module _ (state : List ℕ) (n : ℕ) (none : isCount n ≡ false) where
           }
       go false e = stay-shut (Open m) (1 ∷ []) (rw e) (rw (none, e))
 
-  pub shut-step : (frame : Frame) (reply : Reply) → Replies state false frame reply → Shut frame reply
+  pub shut-step : (frame : Frame) → Shut frame (replyTo state false frame)
   unfolding opens
-  shut-step Bad reply e = subst (Shut Bad) (sym e) (stay-shut Bad (10 ∷ []) refl refl)
-  shut-step (Open m) reply e = subst (Shut (Open m)) (sym e) (opening-step m)
-  shut-step (Milking stall yield) reply e = subst (Shut (Milking stall yield)) (sym e) (stay-shut (Milking stall yield) (11 ∷ []) refl (rw none))
-  shut-step (Meeting p q) reply e = subst (Shut (Meeting p q)) (sym e) (stay-shut (Meeting p q) (11 ∷ []) refl (rw none))
-  shut-step (Show stall) reply e = subst (Shut (Show stall)) (sym e) (stay-shut (Show stall) (11 ∷ []) refl (rw none))
-  shut-step (Heard stall) reply e = subst (Shut (Heard stall)) (sym e) (stay-shut (Heard stall) (11 ∷ []) refl (rw none refl))
-  shut-step (Settled stall) reply e = subst (Shut (Settled stall)) (sym e) (stay-shut (Settled stall) (11 ∷ []) refl (rw none))
+  shut-step Bad = stay-shut Bad (10 ∷ []) refl refl
+  shut-step (Open m) = opening-step m
+  shut-step (Milking stall yield) = stay-shut (Milking stall yield) (11 ∷ []) refl (rw none)
+  shut-step (Meeting p q) = stay-shut (Meeting p q) (11 ∷ []) refl (rw none)
+  shut-step (Show stall) = stay-shut (Show stall) (11 ∷ []) refl (rw none)
+  shut-step (Heard stall) = stay-shut (Heard stall) (11 ∷ []) refl (rw none)
+  shut-step (Settled stall) = stay-shut (Settled stall) (11 ∷ []) refl (rw none)

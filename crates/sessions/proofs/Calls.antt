@@ -1,29 +1,18 @@
 -- Sessions of calls of `line::answer`: what each says, by one induction over them, and that every list of lines has one.
-use Prim.Native.Nat.{ℕ, _≤_}
-use mathlib.Core.Path.{_≡_, refl, sym, ap, ap₂, subst}
-use mathlib.Core.Bool.{_&&_}
+use Prim.Native.Nat.{ℕ, _*_, _≤_}
+use mathlib.Core.Path.{_≡_, refl, sym, ap, subst, _∙_}
 use mathlib.Core.List.{List, [], _∷_, _++_}
 use native.Mathlib.Omega.{arith}
-use borrow.Author.Tests.{eq-eqb, le-leb}
 use lib.ListN.{length, replicate, length-replicate}
 use Rattle.parlour.proofs.Splits.{of-newest, of-none}
 use Rattle.parlour.proofs.Existence.{some-loan}
-use Rattle.line.specs.Frame.{frameOf}
-use Rattle.line.specs.Parlour.{stateLength, isOpen}
-use Rattle.line.specs.Answer.{longestAnswer, Replied, AnswerIn}
-use Rattle.line.proofs.Lines.{answered as answer-call}
+use Rattle.line.specs.Answer.{longestAnswer, written, answerCall}
+use Rattle.line.proofs.Lines.{answer-fits}
 use Rattle.sessions.specs.Call.{LineCall}
 use Rattle.sessions.specs.Session.{Answered, Session, begun, answered}
 use Rattle.sessions.specs.Claim.{lines, Said, Claim}
 use Rattle.sessions.specs.Theory.{SessionOf}
 use Rattle.sessions.proofs.Stands.{Stands, next, stands-start, stands-long, stands-images}
-use Rattle.sessions.proofs.Replying.{reply-exists}
-
--- what a call with runs of the right lengths replies
-replied : {state line out : List ℕ} {count : ℕ} {state′ out′ : List ℕ} → length state ≡ stateLength → longestAnswer ≤ length out → LineCall state line out count state′ out′
-    → Replied state out (isOpen state) (frameOf line) count state′ out′
-replied {state} {line} {out} {count} {state′} {out′} e l call =
-    subst (AnswerIn state line out count state′ out′) (ap₂ _&&_ (eq-eqb (length state) stateLength e) (le-leb longestAnswer (length out) l)) (call .learnt .answer)
 
 -- one call more
 record After (ls : List (List ℕ)) (c : Answered) (state′ : List ℕ) : Type 0 where
@@ -33,11 +22,11 @@ record After (ls : List (List ℕ)) (c : Answered) (state′ : List ℕ) : Type 
 after : {ls : List (List ℕ)} {state : List ℕ} → Stands ls state → (line out : List ℕ) (count : ℕ) (state′ out′ : List ℕ) → longestAnswer ≤ length out
     → LineCall state line out count state′ out′ → After ls (record { line = line; out = out; count = count; out′ = out′ }) state′
 after {ls} {state} w line out count state′ out′ l call =
-    let r = replied (stands-long w) l call in
-    let n = next ls state line (r .reply) w (r .replies) in
+    let n = next ls state line w in
+    let is = call .learnt ∙ answer-fits state line out (stands-long w) l in
     record {
-      said = record { bytes = r .reply .bytes; answer = n .answer; counted = r .given .counted; out-is = r .given .out-is };
-      stands = subst (Stands (line ∷ ls)) (sym (r .given .state-is)) (n .stands);
+      said = record { counted = ap (λ o. o .count) is ∙ ap (λ b. 2 * length b) (n .answer); out-is = ap (λ o. o .out) is ∙ ap (written out) (n .answer) };
+      stands = subst (Stands (line ∷ ls)) (sym (ap (λ o. o .state) is)) (n .stands);
     }
 
 pub session-stands : {done : List Answered} {state : List ℕ} → Session done state → Stands (lines done) state
@@ -56,15 +45,13 @@ pub sessions-exist : (ls : List (List ℕ)) → SessionOf ls
 sessions-exist [] = record { done = []; state = _; session = begun; makes = refl }
 sessions-exist (line ∷ ls) =
     let before = sessions-exist ls in
-    let state = before .state in
-    let w = reply-exists state (isOpen state) (frameOf line) in
     let out : List ℕ = replicate longestAnswer 0 in
     let long : longestAnswer ≤ length out = omega (arith, length-replicate {A = ℕ} longestAnswer 0) in
-    let call = answer-call state line out (stands-long (session-stands (before .session))) long refl refl
-    (record { reply = w .reply; replies = w .replies; given = record { counted = refl; state-is = refl; out-is = refl } }) in
+    let o = answerCall (before .state) line out in
     record {
       done = _;
-      state = _;
-      session = answered (before .session) line out _ _ _ long (record { lifetimes = ([], ([], ([], tt))); one = some-loan; other = some-loan; third = some-loan; learnt = call });
+      state = o .state;
+      session = answered (before .session) line out (o .count) (o .state) (o .out) long
+          (record { lifetimes = ([], ([], ([], tt))); one = some-loan; other = some-loan; third = some-loan; learnt = refl });
       makes = ap (λ l. line ∷ l) (before .makes);
     }

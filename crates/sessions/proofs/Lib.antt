@@ -2,7 +2,6 @@
 pub mod Standing
 pub mod Answers
 pub mod Stands
-pub mod Replying
 pub mod Calls
 pub mod SettledLines
 pub mod Inputs

@@ -19,7 +19,7 @@ use Rattle.settled.specs.Theory.{IsSettled}
 use Rattle.settled.proofs.Extension.{history-append}
 use Rattle.settled.proofs.Settling.{settled-after}
 use Rattle.sessions.specs.Lines.{heads, itemsOf, items, historyOf}
-use Rattle.sessions.specs.Answer.{Answer}
+use Rattle.sessions.specs.Answer.{answerTo}
 use Rattle.sessions.specs.Claim.{ImagesOf}
 use Rattle.sessions.proofs.Standing.{kept-agree}
 use Rattle.sessions.proofs.Stands.{Stands, shut, open-to}
@@ -63,21 +63,19 @@ behind a s zero l = absurd (omega arith)
 behind a s (suc r) l = let e : r ≡ suc r - 1 = omega arith in ap (λ k. getD s k 0) e
 
 -- N in an answer is the number of the history: a refusal has one byte
-said-count : (n : ℕ) (l : List Item) (p r : ℕ) (bytes : List ℕ) → isCount n ≡ true → Answer n l (Settled p) bytes → 1 ≤ r → r ≤ n → getD bytes r 0 ≡ n → countAfter n l p r ≡ n
+said-count : (n : ℕ) (l : List Item) (p r : ℕ) → isCount n ≡ true → 1 ≤ r → r ≤ n → getD (answerTo n l (Settled p)) r 0 ≡ n → countAfter n l p r ≡ n
 unfolding countsAfter
-said-count n l p r bytes is-open a i j e = go (badStall n p) (a ∙ rw is-open)
+said-count n l p r is-open i j e = go (badStall n p) (rw is-open at e)
   where
-    go : (t : Bool) → bytes ≡ cond t (3 ∷ []) (0 ∷ countsAfter n l p) → countAfter n l p r ≡ n
-    go true d =
-        let none : getD bytes r 0 ≡ 0 = ap (λ s. getD s r 0) d ∙ behind 3 [] r i in
-        absurd (omega (arith, count-range n is-open .0))
-    go false d = sym (ap (λ s. getD s r 0) d ∙ behind 0 (countsAfter n l p) r i ∙ each-byte n (countAfter n l p) r i j) ∙ e
+    go : (t : Bool) → getD (cond t (3 ∷ []) (0 ∷ countsAfter n l p)) r 0 ≡ n → countAfter n l p r ≡ n
+    go true d = absurd (omega (arith, behind 3 [] r i, count-range n is-open .0))
+    go false d = sym (behind 0 (countsAfter n l p) r i ∙ each-byte n (countAfter n l p) r i j) ∙ d
 
-pub settled : (ls : List (List ℕ)) (p r : ℕ) (bytes : List ℕ) → isCount (heads ls) ≡ true → Answer (heads ls) (historyOf ls) (Settled p) bytes
-    → 1 ≤ r → r ≤ heads ls → getD bytes r 0 ≡ heads ls → (later : List (List ℕ)) (state : List ℕ) → ImagesOf (later ++ ls) state
+pub settled : (ls : List (List ℕ)) (p r : ℕ) → isCount (heads ls) ≡ true → 1 ≤ r → r ≤ heads ls
+    → getD (answerTo (heads ls) (historyOf ls) (Settled p)) r 0 ≡ heads ls → (later : List (List ℕ)) (state : List ℕ) → ImagesOf (later ++ ls) state
     → IsSettled (heads ls) (historyOf (later ++ ls)) (imageOf state) r (latestAfter (historyOf ls) p r)
-settled ls p r bytes is-open a i j e later state w =
+settled ls p r is-open i j e later state w =
     let (more, longer) = history-more ls is-open later in
     let same = heads-stay ls is-open later in
     let kept = subst (λ n. Kept n (historyOf (later ++ ls)) (imageOf state)) same (kept-images (later ++ ls) state (ap isCount same ∙ is-open) w) in
-    settled-after kept more (historyOf ls) longer p r i j (said-count (heads ls) (historyOf ls) p r bytes is-open a i j e)
+    settled-after kept more (historyOf ls) longer p r i j (said-count (heads ls) (historyOf ls) p r is-open i j e)

@@ -6,11 +6,10 @@ use mathlib.Core.List.{List, _∷_, _++_, map}
 use lib.ListN.{length}
 use Rattle.image.specs.Layout.{isCount}
 use Rattle.parlour.specs.Table.{imageAfter}
-use Rattle.line.specs.Frame.{frameOf}
 use Rattle.line.specs.Parlour.{imageOf}
 use Rattle.line.specs.Answer.{written}
 use Rattle.sessions.specs.Lines.{heads, historyOf}
-use Rattle.sessions.specs.Answer.{Answer}
+use Rattle.sessions.specs.Answer.{answerAfter}
 use Rattle.sessions.specs.Session.{Answered}
 
 abbrev pub lines : List Answered → List (List ℕ)
@@ -18,10 +17,8 @@ lines done = map (λ c. c .line) done
 
 -- one call, after these lines: how many digits come back, and every byte of its buffer afterwards
 pub record Said (earlier : List (List ℕ)) (c : Answered) : Type 0 where
-  pub bytes : List ℕ
-  pub answer : Answer (heads earlier) (historyOf earlier) (frameOf (c .line)) bytes
-  pub counted : c .count ≡ 2 * length bytes
-  pub out-is : c .out′ ≡ written (c .out) bytes
+  pub counted : c .count ≡ 2 * length (answerAfter earlier (c .line))
+  pub out-is : c .out′ ≡ written (c .out) (answerAfter earlier (c .line))
 
 -- the images of a state are those of the history that lines leave
 pub record ImagesOf (ls : List (List ℕ)) (state : List ℕ) : Type 0 where

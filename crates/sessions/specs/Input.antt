@@ -4,11 +4,8 @@ use Prim.Native.Nat.{ℕ}
 use mathlib.Core.Bool.{cond}
 use mathlib.Core.List.{List, [], _∷_, _++_}
 use lib.Dec.{eqb}
-use Rattle.line.specs.Digits.{digitsOf}
-use Rattle.line.specs.Frame.{frameOf}
-use Rattle.stream.specs.Stream.{newline}
-use Rattle.sessions.specs.Lines.{heads, historyOf}
-use Rattle.sessions.specs.Answer.{Answer}
+use Rattle.stream.specs.Stream.{newline, answerText}
+use Rattle.sessions.specs.Answer.{answerAfter}
 
 -- at the end of the input: a last line that lacks its newline is a line, an empty one is not there
 abbrev pub withLast : List (List ℕ) → List ℕ → List (List ℕ)
@@ -24,8 +21,6 @@ abbrev pub linesOf : List ℕ → List (List ℕ)
 linesOf input = linesFrom [] [] input
 
 -- what is written for some lines, newest first: an answer and a newline for each in turn
-pub data AnswersTo : List (List ℕ) → List ℕ → Type 0 where
-  none : AnswersTo [] []
-  one-more : {earlier : List (List ℕ)} {said : List ℕ} → AnswersTo earlier said
-      → (line bytes : List ℕ) → Answer (heads earlier) (historyOf earlier) (frameOf line) bytes
-      → AnswersTo (line ∷ earlier) (said ++ (digitsOf bytes ++ (newline ∷ [])))
+unfoldable pub answersTo : List (List ℕ) → List ℕ
+answersTo [] = []
+answersTo (line ∷ earlier) = answersTo earlier ++ answerText (answerAfter earlier line)

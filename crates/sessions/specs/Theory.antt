@@ -10,14 +10,14 @@ use Rattle.line.specs.declared.frame.Frame.the-variants.{Settled}
 use Rattle.line.proofs.answer.Statement as answer
 use Rattle.stream.proofs.feed.Statement as feed
 use Rattle.stream.proofs.finish.Statement as finish
-use Rattle.stream.specs.Stream.{Whole}
+use Rattle.stream.specs.Stream.{wholeOutput}
 use Rattle.settled.specs.Count.{latestAfter}
 use Rattle.settled.specs.Theory.{IsSettled}
 use Rattle.sessions.specs.Lines.{heads, historyOf}
-use Rattle.sessions.specs.Answer.{Answer}
+use Rattle.sessions.specs.Answer.{answerTo}
 use Rattle.sessions.specs.Session.{Answered, Session}
 use Rattle.sessions.specs.Claim.{lines, ImagesOf, Claim}
-use Rattle.sessions.specs.Input.{linesOf, AnswersTo}
+use Rattle.sessions.specs.Input.{linesOf, answersTo}
 use Rattle.sessions.specs.Stream.{Finished}
 
 -- a session of these lines
@@ -29,7 +29,7 @@ pub record SessionOf (ls : List (List ℕ)) : Type 0 where
 
 -- from an input to its answers: those of its lines, each from the lines alone
 pub record InputClaim (input answers state : List ℕ) : Type 0 where
-  pub answers-are : AnswersTo (linesOf input) answers
+  pub answers-are : answers ≡ answersTo (linesOf input)
   pub images-are : ImagesOf (linesOf input) state
 
 -- some blocks of this input
@@ -44,8 +44,8 @@ pub record Theory : Type 0 where
   -- Request 2026-05, of lines: after lines that leave a parlour of N heads open, where `06` with stall p is answered with N for stall r, every head has the meeting that is p's
   -- latest of r at that moment, or a newer one of r, then and after whatever lines follow. (The number itself may fall: settled/specs/Examples.antt: falls-again.)
   -- What a session, an input in blocks or a run of the program leaves is a state with the images of its lines: `claim`, `blocks`, `runs`.
-  pub settled : (ls : List (List ℕ)) (p r : ℕ) (bytes : List ℕ) → isCount (heads ls) ≡ true → Answer (heads ls) (historyOf ls) (Settled p) bytes
-      → 1 ≤ r → r ≤ heads ls → getD bytes r 0 ≡ heads ls
+  pub settled : (ls : List (List ℕ)) (p r : ℕ) → isCount (heads ls) ≡ true
+      → 1 ≤ r → r ≤ heads ls → getD (answerTo (heads ls) (historyOf ls) (Settled p)) r 0 ≡ heads ls
       → (later : List (List ℕ)) (state : List ℕ) → ImagesOf (later ++ ls) state
       → IsSettled (heads ls) (historyOf (later ++ ls)) (imageOf state) r (latestAfter (historyOf ls) p r)
   -- Every list of lines has its calls.
@@ -53,7 +53,7 @@ pub record Theory : Type 0 where
   -- From input to answers, in whatever blocks it comes.
   pub blocks : (input answers state : List ℕ) → Finished input answers state → InputClaim input answers state
   -- The same of what a run of the program ends with.
-  pub runs : (input answers state : List ℕ) → Whole input answers state → InputClaim input answers state
+  pub runs : (input : List ℕ) → let o = wholeOutput input in InputClaim input (o .answers) (o .state)
   -- Every input has its calls.
   pub blocks-exist : (input : List ℕ) → FinishedOf input
 
