@@ -1,6 +1,6 @@
 -- An image and a heard list in a line.
 use Prim.Native.Nat.{ℕ, _+_, _-_, _*_, _≤_, _<_}
-use mathlib.Core.Path.{_≡_, sym, ap, ap₂, subst, _∙_}
+use mathlib.Core.Path.{_≡_, sym, ap, ap₂, _∙_}
 use mathlib.Core.Bool.{true, false}
 use mathlib.Core.List.{List, [], _∷_, _++_}
 use native.Mathlib.Omega.{arith}
@@ -12,7 +12,7 @@ use Rattle.image.specs.Check.{badStall}
 use Rattle.head.specs.Heard.{HeardOutcome, heardCall}
 use Rattle.line.specs.Parlour.{headsOf, imageOf}
 use Rattle.line.specs.Answer.{refusal, showing, heardBy, hearing}
-use Rattle.line.proofs.Numbers.{heard-number}
+use Rattle.line.proofs.Numbers.{heard-code}
 use Rattle.line.proofs.Lent.{lent-long, array-long}
 use Rattle.line.proofs.AtStall.{AtStall, stall-image, stall-heads}
 use Rattle.image.proofs.Zeros.{take-zeros}
@@ -41,10 +41,8 @@ module _ {state out : List ℕ} {stall at size m : ℕ} (w : AtStall state out s
   module _ {r : ℕ} {x : List ℕ}
       (call : _≡_ {A = HeardOutcome} (record { answer = r; records = x }) (heardCall (take (at + size - at) (drop at state)) (take (3 * m) (replicate (3 * largest) 0))))
       (x-long : length x ≡ length (take {A = ℕ} (3 * m) (replicate (3 * largest) 0))) where
-    pub heard-code : (r ≤ 264) × (r < 256 → r ≤ m)
-    heard-code =
-        subst (λ (o : HeardOutcome). (o .answer ≤ 264) × (o .answer < 256 → o .answer ≤ m)) (sym call)
-        (heard-number (take (at + size - at) (drop at state)) (take (3 * m) (replicate (3 * largest) 0)) m (sym buffer-long) (stall-heads w))
+    pub hearing-code : (r ≤ 264) × (r < 256 → r ≤ m)
+    hearing-code = heard-code (take (at + size - at) (drop at state)) (take (3 * m) (replicate (3 * largest) 0)) m (sym buffer-long) (stall-heads w) call
 
     pub records-long : length (x ++ drop (3 * m) (replicate (3 * largest) 0)) ≡ 3 * largest
     records-long = array-long (3 * m) (3 * largest) few x x-long
@@ -61,13 +59,13 @@ module _ {state out : List ℕ} {stall at size m : ℕ} (w : AtStall state out s
 
     module _ (less : r < 256) where
       pub used-fits : 3 * r ≤ length (x ++ drop (3 * m) (replicate (3 * largest) 0))
-      used-fits = omega (arith, heard-code .1 less, records-long, few)
+      used-fits = omega (arith, hearing-code .1 less, records-long, few)
 
       pub used-long : (3 * r ≡ length (take (3 * r) (x ++ drop (3 * m) (replicate (3 * largest) 0)))) × (3 * r ≤ 3 * largest)
-      used-long = (sym (length-take-le (3 * r) (x ++ drop (3 * m) (replicate (3 * largest) 0)) used-fits), omega (arith, heard-code .1 less, few))
+      used-long = (sym (length-take-le (3 * r) (x ++ drop (3 * m) (replicate (3 * largest) 0)) used-fits), omega (arith, hearing-code .1 less, few))
 
       the-records : take (3 * r) (x ++ drop (3 * m) (replicate (3 * largest) 0)) ≡ take (3 * r) x
-      the-records = take-append-le (3 * r) x (drop (3 * m) (replicate (3 * largest) 0)) (omega (arith, heard-code .1 less, x-long, buffer-long))
+      the-records = take-append-le (3 * r) x (drop (3 * m) (replicate (3 * largest) 0)) (omega (arith, hearing-code .1 less, x-long, buffer-long))
 
       pub hearing-done : hearing state stall ≡ record { bytes = 0 ∷ r ∷ take (3 * r) (x ++ drop (3 * m) (replicate (3 * largest) 0)); state = state }
       hearing-done = hearing-is ∙ rw (lt-ltb r 256 less, the-records)

@@ -89,15 +89,19 @@ module _ (s u buffer : List ℕ) where
   meeting-code e = omega (arith, ap (λ (o : MeetingOutcome). o .answer) e, meeting-number)
 
 -- a heard list answers its count, at most N, or 256 plus a number up to 8
-abbrev Few : ℕ → HeardOutcome → Type 0
-Few n o = (o .answer ≤ 264) × (o .answer < 256 → o .answer ≤ n)
+module _ (s buffer : List ℕ) (n : ℕ) (long : length buffer ≡ 3 * n) (most : n ≤ largest) where
+  abbrev Few : HeardOutcome → Type 0
+  Few o = (o .answer ≤ 264) × (o .answer < 256 → o .answer ≤ n)
 
-pub heard-number : (s buffer : List ℕ) (n : ℕ) → length buffer ≡ 3 * n → n ≤ largest → Few n (heardCall s buffer)
-heard-number s buffer n long most = go (checked s) refl
-  where
-    go : (x : Checked) → checked s ≡ x → Few n (heardCall s buffer)
-    go (Good h) e = elim (ℕ-discrete (length buffer) (3 * h .n)) [
-      | yes i ↦ let l : heardCount s (h .n) (h .stall) ≤ n = omega (arith, heard-few s (h .n) (h .stall)) in subst (Few n) (sym (heard-accepted s buffer e i)) (omega arith, λ _. l)
-      | no f ↦ subst (Few n) (heard-short s buffer e f) (omega arith, λ k. absurd (omega arith))
-    ]
-    go (Refused number) e = subst (Few n) (heard-refused s buffer e refl) (omega (arith, refused-le s e), λ k. absurd (omega arith))
+  heard-number : Few (heardCall s buffer)
+  heard-number = go (checked s) refl
+    where
+      go : (x : Checked) → checked s ≡ x → Few (heardCall s buffer)
+      go (Good h) e = elim (ℕ-discrete (length buffer) (3 * h .n)) [
+        | yes i ↦ let l : heardCount s (h .n) (h .stall) ≤ n = omega (arith, heard-few s (h .n) (h .stall)) in subst Few (sym (heard-accepted s buffer e i)) (omega arith, λ _. l)
+        | no f ↦ subst Few (heard-short s buffer e f) (omega arith, λ k. absurd (omega arith))
+      ]
+      go (Refused number) e = subst Few (heard-refused s buffer e refl) (omega (arith, refused-le s e), λ k. absurd (omega arith))
+
+  pub heard-code : {r : ℕ} {records : List ℕ} → _≡_ {A = HeardOutcome} (record { answer = r; records = records }) (heardCall s buffer) → (r ≤ 264) × (r < 256 → r ≤ n)
+  heard-code e = subst Few (sym e) heard-number

@@ -3,7 +3,7 @@ use mathlib.Core.Path.{sym, _∙_}
 use native.Mathlib.Omega.{arith}
 use Rattle.line.proofs.Replying.{replied-byte, replied-bytes, stall-of}
 use Rattle.line.proofs.AtStall.{stall-fits}
-use Rattle.line.proofs.HeardLine.{hearing-bad, buffer-long, heard-code, hearing-refused, used-fits, used-long, hearing-done}
+use Rattle.line.proofs.HeardLine.{hearing-bad, buffer-long, hearing-code, hearing-refused, used-fits, used-long, hearing-done}
 use borrow.Author.Needs.{needs}
 use Rattle.line.proofs.heard.Statement.{statement}
 use Rattle.line.proofs.heard.Tie as tie
@@ -28,7 +28,7 @@ heard-spec =
     (λ c. search needs)
     (λ c. buffer-long (record { opened = c .before .before .before .before .before .before .before .before .before .before .pre; good = sym (c .before .before .before .before .before .before .bad-stall .ensures) ∙ c .before .before .before .before .before .if1 .left; stands = c .before .before .before .before .place-of .ensures; long = c .before .before .length-of .ensures; m-is = c .before .before .before .wide .ensures .0 }))
     (λ c κs. search needs)
-    (λ c. omega (arith, heard-code (record { opened = c .before .before .before .before .before .before .before .before .before .before .before .before .before .before .pre; good = sym (c .before .before .before .before .before .before .before .before .before .before .bad-stall .ensures) ∙ c .before .before .before .before .before .before .before .before .before .if1 .left; stands = c .before .before .before .before .before .before .before .before .place-of .ensures; long = c .before .before .before .before .before .before .length-of .ensures; m-is = c .before .before .before .before .before .before .before .wide .ensures .0 }) (c .before .before .before .wilbryn-heard .ensures) (c .before .before .before .wilbryn-heard .kept .1 .0) .0))
+    (λ c. omega (arith, hearing-code (record { opened = c .before .before .before .before .before .before .before .before .before .before .before .before .before .before .pre; good = sym (c .before .before .before .before .before .before .before .before .before .before .bad-stall .ensures) ∙ c .before .before .before .before .before .before .before .before .before .if1 .left; stands = c .before .before .before .before .before .before .before .before .place-of .ensures; long = c .before .before .before .before .before .before .length-of .ensures; m-is = c .before .before .before .before .before .before .before .wide .ensures .0 }) (c .before .before .before .wilbryn-heard .ensures) (c .before .before .before .wilbryn-heard .kept .1 .0) .0))
     (λ c κs. search needs)
     (λ c. search needs)
     (λ c. replied-byte _ _ (hearing-refused (record { opened = c .before .before .before .before .before .before .before .before .before .before .before .before .before .before .before .before .before .pre; good = sym (c .before .before .before .before .before .before .before .before .before .before .before .before .before .bad-stall .ensures) ∙ c .before .before .before .before .before .before .before .before .before .before .before .before .if1 .left; stands = c .before .before .before .before .before .before .before .before .before .before .before .place-of .ensures; long = c .before .before .before .before .before .before .before .before .before .length-of .ensures; m-is = c .before .before .before .before .before .before .before .before .before .before .wide .ensures .0 }) (c .before .before .before .before .before .before .wilbryn-heard .ensures) (c .before .before .before .before .before .before .wilbryn-heard .kept .1 .0) (c .before .before .before .before .if2 .taken)) (c .before .before .reply-byte2 .ensures))
