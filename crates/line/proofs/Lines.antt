@@ -12,10 +12,7 @@ use Rattle.line.specs.Answer.{longestAnswer, replyTo, replyToLine, Answe
 use Rattle.line.specs.declared.frame.Frame.{Frame}
 
 module _ (state line out : List ℕ) where
-  -- the buffers have the right lengths
-  abbrev fit : Bool
-  fit = eqb (length state) stateLength && leb longestAnswer (length out)
-
+  -- buffers of the right lengths
   pub answer-fits : length state ≡ stateLength → longestAnswer ≤ length out → answerCall state line out ≡ replied out (replyToLine state line)
   unfolding answerCall
   answer-fits e l = rw (eq-eqb (length state) stateLength e, le-leb longestAnswer (length out) l)
@@ -24,7 +21,8 @@ module _ (state line out : List ℕ) where
       → o ≡ replied out (replyTo state opened frame) → o ≡ answerCall state line out
   answered e l o f r = r ∙ ap₂ (λ b x. replied out (replyTo state b x)) o f ∙ sym (answer-fits e l)
 
-  unfit : fit ≡ false → outcome 0 state out ≡ answerCall state line out
+  -- and others
+  unfit : (eqb (length state) stateLength && leb longestAnswer (length out)) ≡ false → outcome 0 state out ≡ answerCall state line out
   unfolding answerCall
   unfit e = rw e
 
