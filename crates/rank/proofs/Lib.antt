@@ -3,5 +3,5 @@ pub mod Before
 pub mod Ranking
 pub mod Exchange
 pub mod Insertion
-pub mod Front
+pub mod Parted
 pub mod Theory
