@@ -3,5 +3,6 @@ pub mod Before
 pub mod Ranking
 pub mod Exchange
 pub mod Insertion
+pub mod Walking
 pub mod Parted
 pub mod Theory
