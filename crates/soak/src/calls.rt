@@ -89,6 +89,15 @@ pub fn settled(images: &[u8], n: u16, stall: u16, counts: &mut [u8], buffer: u16
     head::wilbryn_settled(&image[..len], &mut counts[..lent])
 }
 
+// The heard list. The buffer is the first bytes of a longer run.
+pub fn heard(images: &[u8], n: u16, stall: u16, records: &mut [u8], buffer: u16) -> u32 {
+    let mut image = room();
+    load(images, stall, &mut image);
+    let len = fitting(image_length(n), &image);
+    let lent = fitting(buffer as usize, records);
+    head::wilbryn_heard(&image[..len], &mut records[..lent])
+}
+
 // The call itself. Images and buffer are the first bytes of longer runs.
 fn meet(one: &mut [u8], two: &mut [u8], n: u16, verdicts: &mut [u8], buffer: u16) -> u32 {
     let one_len = fitting(image_length(n), one);

@@ -1,5 +1,6 @@
 // What the history says of an item against what the calls did.
 use crate::calls;
+use crate::heard;
 use crate::history;
 use crate::history::Named;
 use crate::random::Item;
@@ -18,6 +19,7 @@ pub enum Difference {
     Answer,
     Verdicts,
     Image(u16),
+    List(u16),
     Counts(u16),
     Names,
 }
@@ -114,6 +116,10 @@ pub fn compare(
     let head = wrong_image(history, images, n);
     if head != 0 {
         return Difference::Image(head);
+    }
+    let head = heard::wrong_list(history, images, n);
+    if head != 0 {
+        return Difference::List(head);
     }
     let head = settled::wrong_counts(history, images, n);
     if head != 0 {

@@ -34,7 +34,7 @@ const LAST: u16 = 0;
 const CURRENT: u16 = 1;
 
 // The yield of a head that was not milked, and of a stall never heard.
-const NOT_MILKED: u16 = 0xffff;
+pub const NOT_MILKED: u16 = 0xffff;
 
 // A meeting as a name says it.
 pub struct Named {

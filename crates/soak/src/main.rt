@@ -1,9 +1,11 @@
 // Long pseudo-random lists of milkings and meetings for every size of a parlour, through the calls of
 // a head and through a history program written from document 01 and its requests alone. Prints for
-// each size how many items there were, how many of them counted or were refused, how many numbers of
-// what is settled were n, and how many lists differed.
+// each size how many items there were, how many of them counted or were refused, how many records of
+// heard lists stood elsewhere than at their stall's number, how many numbers of what is settled were n,
+// and how many lists differed.
 mod calls;
 mod compare;
+mod heard;
 mod history;
 mod random;
 mod report;
@@ -26,6 +28,7 @@ struct Tally {
     refused_milkings: u64,
     refused_meetings: u64,
     largest_label: u32,
+    moved: u64,
     settled: u64,
     differences: u64,
 }
@@ -34,8 +37,16 @@ fn more(count: u64) -> u64 {
     std::num::wrapping_add_u64(count, 1)
 }
 
-fn noted(tally: Tally, item: Item, answer: u32) -> Tally {
+// What the heads say of what they have heard.
+fn counted(history: &[u16], n: u16, tally: Tally) -> Tally {
     let mut tally = tally;
+    tally.moved = std::num::wrapping_add_u64(tally.moved, heard::moved_count(history, n));
+    tally.settled = std::num::wrapping_add_u64(tally.settled, settled::settled_count(history, n));
+    tally
+}
+
+fn noted(history: &[u16], n: u16, tally: Tally, item: Item, answer: u32) -> Tally {
+    let mut tally = counted(history, n, tally);
     tally.items = more(tally.items);
     match item {
         Item::Milking { stall: _, given: _ } => {
@@ -76,8 +87,7 @@ fn step(
     let wanted = compare::wanted(history, n, item);
     let got = compare::done(images, n, item);
     let difference = compare::compare(history, images, n, wanted, got);
-    let mut tally = noted(tally, item, got.answer);
-    tally.settled = std::num::wrapping_add_u64(tally.settled, settled::settled_count(history, n));
+    let mut tally = noted(history, n, tally, item, got.answer);
     if let Difference::Nothing = difference {
         return tally;
     }
@@ -124,6 +134,7 @@ fn run_lists(history: &mut [u16], images: &mut [u8], random: &mut u64, n: u16) -
         refused_milkings: 0,
         refused_meetings: 0,
         largest_label: 0,
+        moved: 0,
         settled: 0,
         differences: 0,
     };
@@ -144,7 +155,8 @@ fn say_tally(n: u16, tally: Tally) {
     say_number(b" meetings, refused ", tally.refused_milkings);
     say_number(b" with 4 and ", tally.refused_meetings);
     say_number(b" with 8; largest label ", tally.largest_label as u64);
-    say_number(b", ", tally.settled);
+    say_number(b", ", tally.moved);
+    say_number(b" records moved, ", tally.settled);
     say_number(b" numbers of n; ", tally.differences);
     say(b" differences\n");
 }

@@ -2,6 +2,7 @@
 use crate::calls;
 use crate::compare::Difference;
 use crate::compare::Outcome;
+use crate::heard;
 use crate::history;
 use crate::random::Item;
 use crate::settled;
@@ -79,6 +80,25 @@ fn say_image(history: &[u16], images: &[u8], n: u16, head: u16) {
 }
 
 // What the call answers and writes for a buffer of a length.
+fn say_heard(images: &[u8], n: u16, head: u16, buffer: u16) {
+    let mut records = [calls::UNWRITTEN; heard::ROOM];
+    let answer = calls::heard(images, n, head, &mut records, buffer);
+    say_number(b"    buffer ", buffer as u64);
+    say_number(b": answer ", answer as u64);
+    say_hex(b", got ", &records);
+}
+
+fn say_list(history: &[u16], images: &[u8], n: u16, head: u16) {
+    let mut wanted = [calls::UNWRITTEN; heard::ROOM];
+    let count = heard::put_list(history, n, head, &mut wanted);
+    say_number(b"  heard list of head ", head as u64);
+    say_number(b"\n    answer ", count as u64);
+    say_hex(b" wanted, ", &wanted);
+    say_heard(images, n, head, heard::buffer_of(n));
+    say_heard(images, n, head, heard::longer(n));
+}
+
+// The same for the numbers of what is settled.
 fn say_settled(images: &[u8], n: u16, head: u16, buffer: u16) {
     let mut counts = [calls::UNWRITTEN; 16];
     let answer = calls::settled(images, n, head, &mut counts, buffer);
@@ -113,6 +133,7 @@ pub fn say_difference(
     say_outcome(wanted, got);
     match difference {
         Difference::Image(head) => say_image(history, images, n, head),
+        Difference::List(head) => say_list(history, images, n, head),
         Difference::Counts(head) => say_counts(history, images, n, head),
         Difference::Names => say(b"  two own rows have different meetings under one name\n"),
         _ => {}
