@@ -1,5 +1,5 @@
--- Document 01's listing as lines, its examples for the numbers 10 and 11, those of the other numbers that a line can draw, and the heard list and request 2026-05's kind on
--- the listing, by evaluation.
+-- Document 01's listing as lines, its examples for the numbers 10 and 11, those of the other numbers that a line can draw, heard lists, and request 2026-05's kind on the
+-- listing, by evaluation.
 use Prim.Native.Nat.{ℕ}
 use mathlib.Core.Path.{_≡_, refl}
 use mathlib.Core.List.{List, [], _∷_, _++_, map, flatMap}
@@ -8,9 +8,8 @@ use Rattle.image.specs.Stalls.{count}
 use Rattle.image.specs.Examples.{notMilked, listing}
 use Rattle.merge.specs.Examples.{evaluated as merge-evaluated}
 use Rattle.head.specs.Calls.{milked, milkingCall}
-use Rattle.head.specs.HeardOrder.{chosen}
-use Rattle.head.specs.Heard.{heardCount, heardBytes, heardFrom}
 use Rattle.head.specs.Settled.{settledCounts, settledFrom}
+use Rattle.head.specs.Examples.{heardEvaluated}
 use Rattle.line.specs.Digits.{isDigit, digitValue, allDigits, wholePairs, pairValue, bytesOf, digitOf, digitsOf}
 use Rattle.line.specs.Frame.{kindOfTwo, kindOfThree, kindOfFour, frameOfBytes, frameOf}
 use Rattle.line.specs.Parlour.{stateLength, imageOf, withImage, freshSlot, freshState}
@@ -18,7 +17,7 @@ use Rattle.line.specs.Answer.{opening, milking, meetingOf, meeting, show
 
 -- whoever unfolds this unfolds all that an answer is computed with
 unfoldable pub answered : Unit {0}
-unfolding flatMap merge-evaluated milked milkingCall chosen heardCount heardBytes heardFrom count settledCounts settledFrom isDigit digitValue allDigits wholePairs pairValue bytesOf digitOf digitsOf kindOfTwo kindOfThree kindOfFour frameOfBytes frameOf imageOf withImage freshSlot freshState opening milking meetingOf meeting showing hearing settling
+unfolding flatMap merge-evaluated milked milkingCall heardEvaluated count settledCounts settledFrom isDigit digitValue allDigits wholePairs pairValue bytesOf digitOf digitsOf kindOfTwo kindOfThree kindOfFour frameOfBytes frameOf imageOf withImage freshSlot freshState opening milking meetingOf meeting showing hearing settling
 answered = tt
 
 -- the answers to some lines in turn, as bytes
@@ -113,6 +112,14 @@ heard-examples : answersTo shut (map digitsOf ((0x05 ∷ 0x01 ∷ []) ∷ (0x01 
     ∷ (0 ∷ 3 ∷ 1 ∷ 0x00 ∷ 0x12 ∷ 2 ∷ 0xff ∷ 0xff ∷ 3 ∷ 0xff ∷ 0xff ∷ []) ∷ (0 ∷ 2 ∷ 1 ∷ 0x00 ∷ 0x12 ∷ 2 ∷ 0xff ∷ 0xff ∷ []) ∷ (3 ∷ []) ∷ []
 unfolding answered answersTo
 heard-examples = refl
+
+-- Request 2026-07: stall 2 gave more than stall 1, and stall 3 was not milked; then as much as stall 2, and comes behind it
+ranking-example : answersTo shut (map digitsOf ((0x01 ∷ 0x03 ∷ []) ∷ (0x02 ∷ 0x01 ∷ 0x00 ∷ 0x12 ∷ []) ∷ (0x02 ∷ 0x02 ∷ 0x01 ∷ 0x00 ∷ []) ∷ (0x03 ∷ 0x01 ∷ 0x02 ∷ []) ∷ (0x03 ∷ 0x02 ∷ 0x03 ∷ [])
+    ∷ (0x05 ∷ 0x03 ∷ []) ∷ (0x02 ∷ 0x03 ∷ 0x01 ∷ 0x00 ∷ []) ∷ (0x03 ∷ 0x03 ∷ 0x02 ∷ []) ∷ (0x05 ∷ 0x03 ∷ []) ∷ []))
+    ≡ (0 ∷ []) ∷ (0 ∷ []) ∷ (0 ∷ []) ∷ (0 ∷ 0 ∷ 0 ∷ 0 ∷ 0 ∷ []) ∷ (0 ∷ 0 ∷ 1 ∷ 1 ∷ 0 ∷ [])
+    ∷ (0 ∷ 3 ∷ 2 ∷ 0x01 ∷ 0x00 ∷ 1 ∷ 0x00 ∷ 0x12 ∷ 3 ∷ 0xff ∷ 0xff ∷ []) ∷ (0 ∷ []) ∷ (0 ∷ 1 ∷ 0 ∷ 0 ∷ 0 ∷ []) ∷ (0 ∷ 3 ∷ 2 ∷ 0x01 ∷ 0x00 ∷ 3 ∷ 0x01 ∷ 0x00 ∷ 1 ∷ 0x00 ∷ 0x12 ∷ []) ∷ []
+unfolding answered answersTo
+ranking-example = refl
 
 -- 11 before any opening. A fresh head has heard nobody. After the listing's meetings 1-2 and 2-3, heads 2 and 3 know stall 1's latest, 1-2, to lie in the past of everybody's
 -- latest, and 2-3 in that of stalls 2 and 3; head 1 has 1-2 alone, and never heard stall 3. 3: a stall that is not there; 10: a length that is not the kind's.
