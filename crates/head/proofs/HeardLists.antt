@@ -7,7 +7,7 @@ use native.Mathlib.Omega.{arith}
 use lib.Dec.{eqb}
 use lib.ListN.{length, take, drop, replicate, length-append, length-map}
 use lib.Seq.{take-at, length-take-le}
-use Rattle.image.specs.Layout.{largest, partnerAt, labelAt, nameFrom, nameAt, heardAt, yieldsPlace, yieldsFrom}
+use Rattle.image.specs.Layout.{largest, partnerAt, labelAt, nameFrom, nameAt, heardAt, yieldsFrom}
 use Rattle.image.specs.Frame.{Framed}
 use Rattle.image.specs.Row.{isNever, ownRow}
 use Rattle.image.specs.declared.Name.the-variants.{Never, With}

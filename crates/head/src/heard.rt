@@ -2,7 +2,7 @@
 ghost use mathlib.Core.Path.{_≡_};
 ghost use Prim.Native.Nat.{_+_, _-_, _*_, _≤_, _<_};
 ghost use mathlib.Core.Bool.{not, cond};
-ghost use mathlib.Core.List.{[], _∷_, _++_, flatMap};
+ghost use mathlib.Core.List.{_++_, flatMap};
 ghost use lib.ListN.{length, take, drop, replicate};
 ghost use Rattle.image.specs.Frame.{Framed};
 ghost use Rattle.image.specs.Layout.{largest, word};

@@ -34,7 +34,7 @@ module _ (n : ℕ) (l : List Item) where
       let next = meeting p q (replicate n 0) ∷ l in
       0 ∷ label n (events next) (meetings next) ∷ verdicts (events l) (meetings l) n p q
 
-  -- "the count and the records alone": the heard list of the image that the history leaves
+  -- "the count and the records alone": the heard list of the image that the history leaves, in the order of request 2026-07
   abbrev pub listBytes : ℕ → List ℕ
   listBytes stall = let s = imageAfter n l stall in 0 ∷ heardCount s n stall ∷ heardBytes s n stall
 

@@ -58,16 +58,38 @@ fn is_image_right(history: &[u16], images: &[u8], n: u16, head: u16) -> bool {
     same(&wanted, &image)
 }
 
-// The first head whose image is not what the list leaves, 0 where there is none.
-fn wrong_image(history: &[u16], images: &[u8], n: u16) -> u16 {
+// What of a head is not as the history says: its image, its heard list, or its numbers.
+fn of_head(history: &[u16], images: &[u8], n: u16, head: u16) -> Difference {
+    if !is_image_right(history, images, n, head) {
+        return Difference::Image(head);
+    }
+    if !heard::is_list_right(history, images, n, head) {
+        return Difference::List(head);
+    }
+    if !settled::are_counts_right(history, images, n, head) {
+        return Difference::Counts(head);
+    }
+    Difference::Nothing
+}
+
+fn is_none(difference: Difference) -> bool {
+    match difference {
+        Difference::Nothing => true,
+        _ => false,
+    }
+}
+
+// That of the first head that has one.
+fn of_heads(history: &[u16], images: &[u8], n: u16) -> Difference {
     let mut head = 0u16;
     while head < n {
         head += 1;
-        if !is_image_right(history, images, n, head) {
-            return head;
+        let difference = of_head(history, images, n, head);
+        if !is_none(difference) {
+            return difference;
         }
     }
-    0
+    Difference::Nothing
 }
 
 // A head's own row has another meeting under the name of this one.
@@ -113,17 +135,9 @@ pub fn compare(
     if !same(&wanted_verdicts, &verdicts) {
         return Difference::Verdicts;
     }
-    let head = wrong_image(history, images, n);
-    if head != 0 {
-        return Difference::Image(head);
-    }
-    let head = heard::wrong_list(history, images, n);
-    if head != 0 {
-        return Difference::List(head);
-    }
-    let head = settled::wrong_counts(history, images, n);
-    if head != 0 {
-        return Difference::Counts(head);
+    let difference = of_heads(history, images, n);
+    if !is_none(difference) {
+        return difference;
     }
     if is_ambiguous(history, n) {
         return Difference::Names;

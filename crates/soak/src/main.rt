@@ -40,8 +40,14 @@ fn more(count: u64) -> u64 {
 // What the heads say of what they have heard.
 fn counted(history: &[u16], n: u16, tally: Tally) -> Tally {
     let mut tally = tally;
-    tally.moved = std::num::wrapping_add_u64(tally.moved, heard::moved_count(history, n));
-    tally.settled = std::num::wrapping_add_u64(tally.settled, settled::settled_count(history, n));
+    let mut head = 0u16;
+    while head < n {
+        head += 1;
+        let moved = heard::moved_of(history, n, head);
+        let settled = settled::settled_of(history, n, head);
+        tally.moved = std::num::wrapping_add_u64(tally.moved, moved);
+        tally.settled = std::num::wrapping_add_u64(tally.settled, settled);
+    }
     tally
 }
 

@@ -43,7 +43,8 @@ fn is_longer_refused(images: &[u8], n: u16, head: u16) -> bool {
     answer == 8 && same(&wanted, &counts)
 }
 
-fn are_counts_right(history: &[u16], images: &[u8], n: u16, head: u16) -> bool {
+// A head's numbers are what the history says.
+pub fn are_counts_right(history: &[u16], images: &[u8], n: u16, head: u16) -> bool {
     let mut wanted = [UNWRITTEN; 16];
     let mut counts = [UNWRITTEN; 16];
     put_counts(history, n, head, &mut wanted);
@@ -51,20 +52,8 @@ fn are_counts_right(history: &[u16], images: &[u8], n: u16, head: u16) -> bool {
     answer == 0 && same(&wanted, &counts) && is_longer_refused(images, n, head)
 }
 
-// The first head whose numbers are not what the history says, 0 where there is none.
-pub fn wrong_counts(history: &[u16], images: &[u8], n: u16) -> u16 {
-    let mut head = 0u16;
-    while head < n {
-        head += 1;
-        if !are_counts_right(history, images, n, head) {
-            return head;
-        }
-    }
-    0
-}
-
 // How many of a head's numbers are n: there all have that meeting or a newer one.
-fn settled_of(history: &[u16], n: u16, head: u16) -> u64 {
+pub fn settled_of(history: &[u16], n: u16, head: u16) -> u64 {
     let mut settled = 0u64;
     let mut r = 0u16;
     while r < n {
@@ -72,17 +61,6 @@ fn settled_of(history: &[u16], n: u16, head: u16) -> u64 {
         if count_of(history, n, head, r) as u16 == n {
             settled = std::num::wrapping_add_u64(settled, 1);
         }
-    }
-    settled
-}
-
-// How many numbers of all heads are n.
-pub fn settled_count(history: &[u16], n: u16) -> u64 {
-    let mut settled = 0u64;
-    let mut head = 0u16;
-    while head < n {
-        head += 1;
-        settled = std::num::wrapping_add_u64(settled, settled_of(history, n, head));
     }
     settled
 }
