@@ -78,16 +78,22 @@ module _ (s : List ℕ) (n own m : ℕ) (row : List Entry) (f : Framed s n own) 
     unfolding heardCount
     the-count = sym ranked-long ∙ ap length ranked-is
 
+    the-bytes : flatMap bytesOf (take count ordered) ≡ heardBytes s n own
+    unfolding heardBytes
+    the-bytes = ap (flatMap bytesOf) the-records
+
+    bytes-long : length (flatMap bytesOf (take count ordered)) ≡ 3 * count
+    bytes-long = length-bytes (take count ordered) ∙ ap (λ l. 3 * length l) (the-records ∙ sym ranked-is) ∙ ap (λ k. 3 * k) ranked-long
+
     pub heard-list : (d mid out : List ℕ) → length d ≡ 3 * n → length mid ≡ length d → mid ≡ listed ordered d count → out ≡ take (3 * count) mid ++ replicate (length mid - 3 * count) 0
         → _≡_ {A = HeardOutcome} (record { answer = count; records = out }) (heardList s n own)
-    unfolding heardCount heardBytes
-    heard-list d mid out d-long mid-long mid-is out-is =
-        let rest : length mid - 3 * count ≡ 3 * n - 3 * count = omega arith in
-        let bytes : List ℕ = flatMap bytesOf (take count ordered) in
-        let bytes-long : length bytes ≡ 3 * count = length-bytes (take count ordered) ∙ ap (λ l. 3 * length l) the-records ∙ ap (λ k. 3 * k) (sym the-count) in
-        ap₂ (λ k o. record { answer = k; records = o }) the-count
-        (out-is ∙ ap₂ (λ a k. a ++ replicate k 0) (ap (take (3 * count)) mid-is ∙ take-at bytes (drop (3 * count) d) (3 * count) bytes-long ∙ ap (flatMap bytesOf) the-records) rest
-        ∙ ap (λ k. flatMap bytesOf (heardRecords s n own) ++ replicate (3 * n - 3 * k) 0) the-count)
+    heard-list d mid out d-long mid-long mid-is out-is = ap₂ (λ k o. record { answer = k; records = o }) the-count (out-is ∙ ap₂ (λ a k. a ++ replicate k 0) front rest)
+      where
+        front : take (3 * count) mid ≡ heardBytes s n own
+        front = ap (take (3 * count)) mid-is ∙ take-at (flatMap bytesOf (take count ordered)) (drop (3 * count) d) (3 * count) bytes-long ∙ the-bytes
+
+        rest : length mid - 3 * count ≡ 3 * n - 3 * heardCount s n own
+        rest = omega (arith, the-count)
 
 -- no more records than stalls, each of three bytes
 pub heard-few : (s : List ℕ) (n own : ℕ) → heardCount s n own ≤ n
