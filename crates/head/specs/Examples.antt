@@ -45,11 +45,19 @@ unfolding evaluated heardEvaluated allHeard heardInto heardOf flatMap flatten
 order-examples = (refl, refl, refl, refl)
 
 -- zeros behind the records: a head that has heard of itself alone; one that has heard of stall 2, which was not milked, and not of stall 3; a fresh one. Then 264 for a
--- buffer of another length, and 262, 261 and 257 before it.
+-- buffer of another length, and 262 to 257 before it.
 heard-examples : (heardInto ((2 ∷ 1 ∷ 0 ∷ 0 ∷ 2 ∷ 0 ∷ replicate 6 0) ++ wordBytes 5 ++ notMilked 1 ++ (1 ∷ 0 ∷ [])) 6 ≡ 1 ∷ 1 ∷ 0 ∷ 5 ∷ 0 ∷ 0 ∷ 0 ∷ [])
     × (map (λ s. heardInto s 9) (metOnce 0 0 0xffff 0xffff ∷ freshImage 3 2 ∷ []) ≡ (2 ∷ 1 ∷ 0 ∷ 0 ∷ 2 ∷ 0xff ∷ 0xff ∷ 0 ∷ 0 ∷ 0 ∷ []) ∷ (0 ∷ replicate 9 0) ∷ [])
     × (map (heardInto listing) (0 ∷ 2 ∷ 9 ∷ []) ≡ (264 ∷ []) ∷ (264 ∷ 9 ∷ 9 ∷ []) ∷ (3 ∷ 1 ∷ 0 ∷ 18 ∷ 2 ∷ 0xff ∷ 0xff ∷ 3 ∷ 0xff ∷ 0xff ∷ []) ∷ [])
-    × (map (λ s. heardInto s 1) (((2 ∷ 1 ∷ notMilked 1) ++ replicate 8 0 ++ notMilked 2 ++ (0 ∷ 1 ∷ [])) ∷ metOnce 11 0 0 0xffff ∷ [] ∷ []) ≡ (262 ∷ 9 ∷ []) ∷ (261 ∷ 9 ∷ []) ∷ (257 ∷ 9 ∷ []) ∷ [])
+    × (map (λ s. heardInto s 1)
+    (((2 ∷ 1 ∷ notMilked 1) ++ replicate 8 0 ++ notMilked 2 ++ (0 ∷ 1 ∷ []))
+    ∷ metOnce 11 0 0 0xffff
+    ∷ (2 ∷ 1 ∷ 3 ∷ 0xe8 ∷ replicate 14 0)
+    ∷ (2 ∷ 3 ∷ replicate 16 0)
+    ∷ (2 ∷ 1 ∷ [])
+    ∷ []
+    ∷ [])
+    ≡ (262 ∷ 9 ∷ []) ∷ (261 ∷ 9 ∷ []) ∷ (260 ∷ 9 ∷ []) ∷ (259 ∷ 9 ∷ []) ∷ (258 ∷ 9 ∷ []) ∷ (257 ∷ 9 ∷ []) ∷ [])
 unfolding evaluated heardEvaluated heardInto flatMap
 heard-examples = (refl, refl, refl, refl)
 

@@ -1,4 +1,4 @@
--- What a line is answered, from the lines before it alone: labels, verdicts, images, numbers of stalls and refusals are those of the history of the items that count.
+-- What a line is answered, from the lines before it alone: labels, verdicts, images, heard lists, numbers of stalls and refusals are those of the history of the items that count.
 use Prim.Native.Nat.{ℕ}
 use mathlib.Core.Bool.{cond}
 use mathlib.Core.List.{List, [], _∷_}
