@@ -32,7 +32,7 @@ length-chosen (suc n) f = go (f (suc n)) (length-chosen n f)
     go true l = omega (arith, length-append (chosen n f) (suc n ∷ []))
     go false l = omega (arith, length-append {A = ℕ} (chosen n f) [])
 
-chosen-agree : (n : ℕ) (f g : ℕ → Bool) → ((r : ℕ) → 1 ≤ r → r ≤ n → f r ≡ g r) → chosen n f ≡ chosen n g
+pub chosen-agree : (n : ℕ) (f g : ℕ → Bool) → ((r : ℕ) → 1 ≤ r → r ≤ n → f r ≡ g r) → chosen n f ≡ chosen n g
 unfolding chosen
 chosen-agree zero f g e = refl
 chosen-agree (suc n) f g e =
@@ -40,7 +40,7 @@ chosen-agree (suc n) f g e =
 
 -- The own row says who was heard
 
-named : (p l : ℕ) → not (isNever (nameFrom p l)) ≡ not (eqb p 0)
+pub named : (p l : ℕ) → not (isNever (nameFrom p l)) ≡ not (eqb p 0)
 unfolding nameFrom
 named p l = go (eqb p 0)
   where

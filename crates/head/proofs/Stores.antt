@@ -1,10 +1,10 @@
 -- Stores into a lent run: what stands before a place stays, and the rest is written on from there.
 use Prim.Native.Nat.{ℕ, suc, _+_, _-_, _≤_, _<_}
-use mathlib.Core.Path.{_≡_, sym, ap, _∙_}
+use mathlib.Core.Path.{_≡_, sym, ap, ap₂, _∙_}
 use mathlib.Core.List.{List, [], _∷_, _++_, append-assoc, append-nil}
 use native.Mathlib.Omega.{arith}
-use lib.ListN.{length, take, drop, set, replicate, length-append, length-replicate, replicate-append-replicate, take-append-drop}
-use lib.Seq.{sets-eq, length-take-le, drop-length}
+use lib.ListN.{length, take, drop, set, replicate, length-append, length-replicate, replicate-append-replicate, take-append-drop, drop-of-length-le}
+use lib.Seq.{sets-eq, length-take-le}
 use Rattle.image.proofs.Overwrite.{store-next}
 
 -- three bytes at a place
@@ -35,6 +35,6 @@ cleared-next d at i a l =
     ∙ ap (λ r. r ++ drop (i + 1) d) (append-assoc (take at d) (replicate (i - at) 0) (0 ∷ []) ∙ ap (λ r. take at d ++ r) (replicate-append-replicate (i - at) 1 0))
     ∙ ap (λ m. take at d ++ replicate m 0 ++ drop (i + 1) d) j
 
-pub cleared-end : (d : List ℕ) (at i : ℕ) → i ≡ length d → cleared d at i ≡ take at d ++ replicate (length d - at) 0
+pub cleared-end : (d : List ℕ) (at i : ℕ) → length d ≤ i → i - at ≡ length d - at → cleared d at i ≡ take at d ++ replicate (length d - at) 0
 unfolding cleared
-cleared-end d at i e = rw e (ap (λ r. take at d ++ replicate (length d - at) 0 ++ r) (drop-length d) ∙ append-nil _)
+cleared-end d at i l e = ap₂ (λ k r. take at d ++ replicate k 0 ++ r) e (drop-of-length-le d l) ∙ append-nil _

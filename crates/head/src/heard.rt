@@ -95,9 +95,8 @@ fn put_records(bytes: &mut [u8], records: [Record; STALLS], count: usize)
     }
 }
 
-// Zeros from a place on.
-fn clear_from(bytes: &mut [u8], at: usize)
-    requires { ⌜ at ≤ length (now bytes) ⌝ }
+// Zeros from a place on, if there is anything.
+pub fn clear_from(bytes: &mut [u8], at: usize)
     ensures { λ r. ⌜ now (bytes .exit) ≡ take at (now (bytes .entry)) ++ replicate (length (now (bytes .entry)) - at) 0 ⌝ }
 {
     let mut i = at;

@@ -12,7 +12,7 @@ use image::Checked;
 use image::Head;
 use image::LONGEST;
 
-mod heard;
+pub mod heard;
 mod settled;
 
 // The number of the first check that fails, 0 where none does.

@@ -9,7 +9,7 @@ use Rattle.head.proofs.heard.clear_from.Statement.{statement}
 use Rattle.head.proofs.heard.clear_from.Tie as tie
 
 abbrev Inv-loop : tie.InvT-loop
-Inv-loop bytes₀ at i₀ bytes i = (at ≤ i) × (i ≤ length bytes₀) × (bytes ≡ cleared bytes₀ at i) × (length bytes ≡ length bytes₀)
+Inv-loop bytes₀ at i₀ bytes i = (at ≤ i) × (i - at ≤ length bytes₀ - at) × (bytes ≡ cleared bytes₀ at i) × (length bytes ≡ length bytes₀)
 
 abbrev μ-loop : tie.MeasureT-loop
 μ-loop bytes₀ at i₀ bytes i = length bytes₀ - i
@@ -29,4 +29,4 @@ clear-from-spec =
     (λ c. omega arith)
     (λ c. (omega arith, omega arith, turn (c .before .before .args .bytes .now) (c .before .loop .bytes) (c .before .before .args .at) (c .before .loop .i) (omega arith) (omega arith) (c .before .loop .inv .2), simp length-set (c .before .loop .inv .3)))
     (λ c. c .before .loop .inv .3)
-    (λ c. c .before .loop .inv .2 ∙ cleared-end _ _ _ (omega arith)))
+    (λ c. c .before .loop .inv .2 ∙ cleared-end _ _ _ (omega arith) (omega arith)))
