@@ -7,16 +7,16 @@ use Rattle.head.proofs.wilbryn_settled.Reads as settled
 use Rattle.parlour.specs.Call.{Loan, lent}
 use Rattle.parlour.specs.Run.{Calls, plainCalls}
 
--- it is lent two runs, an image and a buffer
-abbrev pub SettledLent : Type 0
-SettledLent = RefT (List ℕ) × (RefT (List ℕ) × Unit {0})
+-- a call that is lent two runs, an image to read and a buffer to write
+abbrev pub ReadLent : Type 0
+ReadLent = RefT (List ℕ) × (RefT (List ℕ) × Unit {0})
 
--- it is lent this image and this buffer, answers this, leaves the image and these counts
-pub record SettledBy (Learnt : Lfts 2 → SettledLent → ℕ → SettledLent → Type 0) (image buffer : List ℕ) (answer : ℕ) (counts : List ℕ) : Type 0 where
+-- it is lent this image and this buffer, answers this, leaves the image and this in the buffer
+pub record ReadBy (Learnt : Lfts 2 → ReadLent → ℕ → ReadLent → Type 0) (image buffer : List ℕ) (answer : ℕ) (buffer′ : List ℕ) : Type 0 where
   pub lifetimes : Lfts 2
   pub one : Loan
   pub other : Loan
-  pub learnt : Learnt lifetimes (lent one image, (lent other buffer, tt)) answer (lent one image, (lent other counts, tt))
+  pub learnt : Learnt lifetimes (lent one image, (lent other buffer, tt)) answer (lent one image, (lent other buffer′, tt))
 
 -- a form of tables: the calls of lists, the call for the numbers, and the plain image of a table
 pub record Form : Type 1 where
@@ -26,4 +26,4 @@ pub record Form : Type 1 where
 
 -- tables as document 01 has them
 abbrev pub plainForm : Form
-plainForm = record { calls = plainCalls; settled = SettledBy settled.Learnt; plain = λ image. image }
+plainForm = record { calls = plainCalls; settled = ReadBy settled.Learnt; plain = λ image. image }

@@ -1,7 +1,7 @@
--- The lemmas of `storage`.
+-- The lemmas of `storage`. What crates above cite is `pub mod`.
 mod Unpacking
 mod SameCalls
-mod Exact
+pub mod Exact
 mod Claims
 mod Existence
 mod Compared

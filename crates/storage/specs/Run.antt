@@ -9,7 +9,7 @@ use Rattle.packed.proofs.wilbryn_packed_settled.Reads as settled
 use Rattle.packed.specs.Form.{unpacked}
 use Rattle.parlour.specs.Call.{FreshBy, MilkingBy, MeetingBy}
 use Rattle.parlour.specs.Run.{Images, Called, Calls, RunBy}
-use Rattle.settled.specs.Call.{SettledBy, Form}
+use Rattle.settled.specs.Call.{ReadBy, Form}
 
 -- the calls on packed tables, by the readings of their contracts
 abbrev pub packedCalls : Calls
@@ -21,7 +21,7 @@ PackedRun n calls images = RunBy packedCalls n calls images
 
 -- and with the call for the numbers of request 2026-05: what a packed image stands for is its unpacked form
 abbrev pub packedForm : Form
-packedForm = record { calls = packedCalls; settled = SettledBy settled.Learnt; plain = unpacked }
+packedForm = record { calls = packedCalls; settled = ReadBy settled.Learnt; plain = unpacked }
 
 -- all images, and those of a call, unpacked: its item, answer and verdicts are the same
 abbrev pub unpackedImages : Images → Images
