@@ -1,0 +1,3 @@
+-- The lemmas of `wall`.
+mod Showing
+pub mod Theory
