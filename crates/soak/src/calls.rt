@@ -30,13 +30,22 @@ fn image_length(n: u16) -> usize {
     }
 }
 
-pub fn load(images: &[u8], stall: u16, image: &mut [u8]) {
+fn load(images: &[u8], stall: u16, image: &mut [u8]) {
     let base = 156 * (stall as usize);
     let mut i = 0usize;
     while i < 156 {
         put_byte(image, i, get_byte(images, base + i));
         i += 1;
     }
+}
+
+// A head's image as the calls before left it.
+pub fn image_of(images: &[u8], stall: u16) -> [u8; 156]
+    ensures { λ r. ⌜ 156 ≡ length r ⌝ }
+{
+    let mut image = room();
+    load(images, stall, &mut image);
+    image
 }
 
 fn save(image: &[u8; 156], stall: u16, images: &mut [u8]) {
@@ -72,8 +81,7 @@ pub fn open(images: &mut [u8], n: u16) -> bool {
 }
 
 pub fn milking(images: &mut [u8], n: u16, stall: u16, given: u16) -> u32 {
-    let mut image = room();
-    load(images, stall, &mut image);
+    let mut image = image_of(images, stall);
     let len = fitting(image_length(n), &image);
     let answer = head::wilbryn_milking(&mut image[..len], given);
     save(&image, stall, images);
@@ -81,21 +89,24 @@ pub fn milking(images: &mut [u8], n: u16, stall: u16, given: u16) -> u32 {
 }
 
 // The numbers of what is settled. The buffer is the first bytes of a longer run.
-pub fn settled(images: &[u8], n: u16, stall: u16, counts: &mut [u8], buffer: u16) -> u32 {
-    let mut image = room();
-    load(images, stall, &mut image);
-    let len = fitting(image_length(n), &image);
+pub fn settled(image: &[u8], n: u16, counts: &mut [u8], buffer: u16) -> u32 {
+    let len = fitting(image_length(n), image);
     let lent = fitting(buffer as usize, counts);
     head::wilbryn_settled(&image[..len], &mut counts[..lent])
 }
 
 // The heard list. The buffer is the first bytes of a longer run.
-pub fn heard(images: &[u8], n: u16, stall: u16, records: &mut [u8], buffer: u16) -> u32 {
-    let mut image = room();
-    load(images, stall, &mut image);
-    let len = fitting(image_length(n), &image);
+pub fn heard(image: &[u8], n: u16, records: &mut [u8], buffer: u16) -> u32 {
+    let len = fitting(image_length(n), image);
     let lent = fitting(buffer as usize, records);
     head::wilbryn_heard(&image[..len], &mut records[..lent])
+}
+
+// The wall panel. The buffer is the first bytes of a longer run, or all.
+pub fn panel(image: &[u8], n: u16, text: &mut [u8], buffer: usize) -> u32 {
+    let len = fitting(image_length(n), image);
+    let lent = fitting(buffer, text);
+    panel::wilbryn_panel(&image[..len], &mut text[..lent])
 }
 
 // The call itself. Images and buffer are the first bytes of longer runs.
@@ -118,10 +129,8 @@ pub fn meeting(
     buffer: u16,
     verdicts: &mut [u8],
 ) -> u32 {
-    let mut one = room();
-    let mut two = room();
-    load(images, first, &mut one);
-    load(images, second, &mut two);
+    let mut one = image_of(images, first);
+    let mut two = image_of(images, second);
     let answer = meet(&mut one, &mut two, n, verdicts, buffer);
     save(&one, first, images);
     save(&two, second, images);

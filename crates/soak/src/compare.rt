@@ -3,9 +3,11 @@ use crate::calls;
 use crate::heard;
 use crate::history;
 use crate::history::Named;
+use crate::random;
 use crate::random::Item;
 use crate::settled;
 use crate::table;
+use crate::text;
 use crate::words::same;
 
 // What an item leaves besides the images. The buffer is the start of the 16 bytes.
@@ -21,6 +23,7 @@ pub enum Difference {
     Image(u16),
     List(u16),
     Counts(u16),
+    Text(u16),
     Names,
 }
 
@@ -50,23 +53,22 @@ pub fn done(images: &mut [u8], n: u16, item: Item) -> Outcome {
     Outcome { answer, verdicts }
 }
 
-fn is_image_right(history: &[u16], images: &[u8], n: u16, head: u16) -> bool {
+fn is_image_right(history: &[u16], image: &[u8], n: u16, head: u16) -> bool {
     let mut wanted = calls::room();
-    let mut image = calls::room();
     table::put_image(history, n, head, &mut wanted);
-    calls::load(images, head, &mut image);
-    same(&wanted, &image)
+    same(&wanted, image)
 }
 
 // What of a head is not as the history says: its image, its heard list, or its numbers.
 fn of_head(history: &[u16], images: &[u8], n: u16, head: u16) -> Difference {
-    if !is_image_right(history, images, n, head) {
+    let image = calls::image_of(images, head);
+    if !is_image_right(history, &image, n, head) {
         return Difference::Image(head);
     }
-    if !heard::is_list_right(history, images, n, head) {
+    if !heard::is_list_right(history, &image, n, head) {
         return Difference::List(head);
     }
-    if !settled::are_counts_right(history, images, n, head) {
+    if !settled::are_counts_right(history, &image, n, head) {
         return Difference::Counts(head);
     }
     Difference::Nothing
@@ -88,6 +90,17 @@ fn of_heads(history: &[u16], images: &[u8], n: u16) -> Difference {
         if !is_none(difference) {
             return difference;
         }
+    }
+    Difference::Nothing
+}
+
+// The panel of one head an item, to save time: those of other heads are as they were, and after a meeting
+// both have the same text.
+fn of_panel(history: &[u16], images: &[u8], n: u16, item: Item) -> Difference {
+    let head = random::head_of(item);
+    let image = calls::image_of(images, head);
+    if !text::is_text_right(history, &image, n, head) {
+        return Difference::Text(head);
     }
     Difference::Nothing
 }
@@ -124,6 +137,7 @@ pub fn compare(
     history: &[u16],
     images: &[u8],
     n: u16,
+    item: Item,
     wanted: Outcome,
     got: Outcome,
 ) -> Difference {
@@ -136,6 +150,10 @@ pub fn compare(
         return Difference::Verdicts;
     }
     let difference = of_heads(history, images, n);
+    if !is_none(difference) {
+        return difference;
+    }
+    let difference = of_panel(history, images, n, item);
     if !is_none(difference) {
         return difference;
     }

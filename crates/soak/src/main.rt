@@ -2,7 +2,7 @@
 // a head and through a history program written from document 01 and its requests alone. Prints for
 // each size how many items there were, how many of them counted or were refused, how many records of
 // heard lists stood elsewhere than at their stall's number, how many numbers of what is settled were n,
-// and how many lists differed.
+// how many characters the panels had that were looked at, and how many lists differed.
 mod calls;
 mod compare;
 mod heard;
@@ -11,6 +11,7 @@ mod random;
 mod report;
 mod settled;
 mod table;
+mod text;
 mod words;
 
 use compare::Difference;
@@ -30,6 +31,7 @@ struct Tally {
     largest_label: u32,
     moved: u64,
     settled: u64,
+    characters: u64,
     differences: u64,
 }
 
@@ -53,6 +55,8 @@ fn counted(history: &[u16], n: u16, tally: Tally) -> Tally {
 
 fn noted(history: &[u16], n: u16, tally: Tally, item: Item, answer: u32) -> Tally {
     let mut tally = counted(history, n, tally);
+    let characters = text::characters_of(history, n, random::head_of(item));
+    tally.characters = std::num::wrapping_add_u64(tally.characters, characters);
     tally.items = more(tally.items);
     match item {
         Item::Milking { stall: _, given: _ } => {
@@ -92,7 +96,7 @@ fn step(
     let item = random::next_item(random, history, n, way);
     let wanted = compare::wanted(history, n, item);
     let got = compare::done(images, n, item);
-    let difference = compare::compare(history, images, n, wanted, got);
+    let difference = compare::compare(history, images, n, item, wanted, got);
     let mut tally = noted(history, n, tally, item, got.answer);
     if let Difference::Nothing = difference {
         return tally;
@@ -142,6 +146,7 @@ fn run_lists(history: &mut [u16], images: &mut [u8], random: &mut u64, n: u16) -
         largest_label: 0,
         moved: 0,
         settled: 0,
+        characters: 0,
         differences: 0,
     };
     let mut list = 0u16;
@@ -163,7 +168,8 @@ fn say_tally(n: u16, tally: Tally) {
     say_number(b" with 8; largest label ", tally.largest_label as u64);
     say_number(b", ", tally.moved);
     say_number(b" records moved, ", tally.settled);
-    say_number(b" numbers of n; ", tally.differences);
+    say_number(b" numbers of n, ", tally.characters);
+    say_number(b" characters on panels; ", tally.differences);
     say(b" differences\n");
 }
 

@@ -13,6 +13,18 @@ pub enum Item {
     },
 }
 
+// The head that an item names, of two the first.
+pub fn head_of(item: Item) -> u16 {
+    match item {
+        Item::Milking { stall, given: _ } => stall,
+        Item::Meeting {
+            first,
+            second: _,
+            buffer: _,
+        } => first,
+    }
+}
+
 struct Pair {
     first: u16,
     second: u16,

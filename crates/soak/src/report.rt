@@ -7,6 +7,7 @@ use crate::history;
 use crate::random::Item;
 use crate::settled;
 use crate::table;
+use crate::text;
 use crate::words::get_byte;
 
 pub fn say(text: &[u8]) {
@@ -70,50 +71,72 @@ fn say_outcome(wanted: Outcome, got: Outcome) {
 }
 
 fn say_image(history: &[u16], images: &[u8], n: u16, head: u16) {
+    let image = calls::image_of(images, head);
     let mut wanted = calls::room();
-    let mut image = calls::room();
     table::put_image(history, n, head, &mut wanted);
-    calls::load(images, head, &mut image);
     say_number(b"  image of head ", head as u64);
     say_hex(b"\n    wanted ", &wanted);
     say_hex(b"    got    ", &image);
 }
 
 // What the call answers and writes for a buffer of a length.
-fn say_heard(images: &[u8], n: u16, head: u16, buffer: u16) {
+fn say_heard(image: &[u8], n: u16, buffer: u16) {
     let mut records = [calls::UNWRITTEN; heard::ROOM];
-    let answer = calls::heard(images, n, head, &mut records, buffer);
+    let answer = calls::heard(image, n, &mut records, buffer);
     say_number(b"    buffer ", buffer as u64);
     say_number(b": answer ", answer as u64);
     say_hex(b", got ", &records);
 }
 
 fn say_list(history: &[u16], images: &[u8], n: u16, head: u16) {
+    let image = calls::image_of(images, head);
     let mut wanted = [calls::UNWRITTEN; heard::ROOM];
     let count = heard::put_list(history, n, head, &mut wanted);
     say_number(b"  heard list of head ", head as u64);
     say_number(b"\n    answer ", count as u64);
     say_hex(b" wanted, ", &wanted);
-    say_heard(images, n, head, heard::buffer_of(n));
-    say_heard(images, n, head, heard::longer(n));
+    say_heard(&image, n, heard::buffer_of(n));
+    say_heard(&image, n, heard::longer(n));
 }
 
 // The same for the numbers of what is settled.
-fn say_settled(images: &[u8], n: u16, head: u16, buffer: u16) {
+fn say_settled(image: &[u8], n: u16, buffer: u16) {
     let mut counts = [calls::UNWRITTEN; 16];
-    let answer = calls::settled(images, n, head, &mut counts, buffer);
+    let answer = calls::settled(image, n, &mut counts, buffer);
     say_number(b"    buffer ", buffer as u64);
     say_number(b": answer ", answer as u64);
     say_hex(b", got ", &counts);
 }
 
 fn say_counts(history: &[u16], images: &[u8], n: u16, head: u16) {
+    let image = calls::image_of(images, head);
     let mut wanted = [calls::UNWRITTEN; 16];
     settled::put_counts(history, n, head, &mut wanted);
     say_number(b"  settled numbers of head ", head as u64);
     say_hex(b"\n    wanted ", &wanted);
-    say_settled(images, n, head, n);
-    say_settled(images, n, head, settled::longer(n));
+    say_settled(&image, n, n);
+    say_settled(&image, n, settled::longer(n));
+}
+
+// The same for a panel.
+fn say_panel(image: &[u8], n: u16, buffer: usize) {
+    let mut text = [calls::UNWRITTEN; text::LONGER];
+    let answer = calls::panel(image, n, &mut text, buffer);
+    say_number(b"    buffer ", buffer as u64);
+    say_number(b": answer ", answer as u64);
+    say_hex(b", got ", &text);
+}
+
+fn say_text(history: &[u16], images: &[u8], n: u16, head: u16) {
+    let image = calls::image_of(images, head);
+    let mut wanted = [0u8; text::BUFFER];
+    let length = text::put_text(history, n, head, &mut wanted);
+    say_number(b"  panel of head ", head as u64);
+    say_number(b"\n    answer ", length as u64);
+    say_hex(b" wanted, ", &wanted);
+    say_panel(&image, n, text::BUFFER);
+    say_panel(&image, n, text::SHORTER);
+    say_panel(&image, n, text::LONGER);
 }
 
 // The item, the meetings that led to it, and what was wanted and got.
@@ -135,6 +158,7 @@ pub fn say_difference(
         Difference::Image(head) => say_image(history, images, n, head),
         Difference::List(head) => say_list(history, images, n, head),
         Difference::Counts(head) => say_counts(history, images, n, head),
+        Difference::Text(head) => say_text(history, images, n, head),
         Difference::Names => say(b"  two own rows have different meetings under one name\n"),
         _ => {}
     }

@@ -36,20 +36,20 @@ pub fn longer(n: u16) -> u16 {
     std::num::wrapping_add_u16(n, 1)
 }
 
-fn is_longer_refused(images: &[u8], n: u16, head: u16) -> bool {
+fn is_longer_refused(image: &[u8], n: u16) -> bool {
     let wanted = [UNWRITTEN; 16];
     let mut counts = [UNWRITTEN; 16];
-    let answer = calls::settled(images, n, head, &mut counts, longer(n));
+    let answer = calls::settled(image, n, &mut counts, longer(n));
     answer == 8 && same(&wanted, &counts)
 }
 
 // A head's numbers are what the history says.
-pub fn are_counts_right(history: &[u16], images: &[u8], n: u16, head: u16) -> bool {
+pub fn are_counts_right(history: &[u16], image: &[u8], n: u16, head: u16) -> bool {
     let mut wanted = [UNWRITTEN; 16];
     let mut counts = [UNWRITTEN; 16];
     put_counts(history, n, head, &mut wanted);
-    let answer = calls::settled(images, n, head, &mut counts, n);
-    answer == 0 && same(&wanted, &counts) && is_longer_refused(images, n, head)
+    let answer = calls::settled(image, n, &mut counts, n);
+    answer == 0 && same(&wanted, &counts) && is_longer_refused(image, n)
 }
 
 // How many of a head's numbers are n: there all have that meeting or a newer one.

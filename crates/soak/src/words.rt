@@ -22,6 +22,15 @@ pub fn put_byte(bytes: &mut [u8], at: usize, byte: u8) {
     }
 }
 
+// A number in two bytes, high byte first.
+pub fn get_two(bytes: &[u8], at: usize) -> u16 {
+    if at < bytes.len() {
+        get_byte(bytes, at) as u16 * 256 + get_byte(bytes, at + 1) as u16
+    } else {
+        0
+    }
+}
+
 // Writes a byte at a place, and answers the place after it.
 pub fn push(bytes: &mut [u8], at: usize, word: u16) -> usize {
     if at < bytes.len() {
