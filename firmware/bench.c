@@ -1,10 +1,10 @@
-/* Times the check, the heard list, what is settled and the meeting of wilbryn.h against the plain
-   and the expert version on the same images, then those on packed images against the plain version
-   and against wilbryn.h's own on the unpacked ones; and measures the stack that they touch. What
-   writes is timed on copies, the check on images where they lie, as at a start-up. Then it times a
-   start-up: the check of 10,000 stored images of 8 heads, plain and packed. Where the checks of an
-   earlier landing are linked in as before_check and before_packed_check, the checks are timed
-   against these too, in the same rounds. */
+/* Times the check, the heard list, what is settled, the meeting and the wall panel of wilbryn.h
+   against the plain and the expert version on the same images, then those on packed images against
+   the plain version and against wilbryn.h's own on the unpacked ones; and measures the stack that
+   they touch. What writes is timed on copies, the check on images where they lie, as at a start-up.
+   Then it times a start-up: the check of 10,000 stored images of 8 heads, plain and packed. Where
+   the checks of an earlier landing are linked in as before_check and before_packed_check, the
+   checks are timed against these too, in the same rounds. */
 #define _XOPEN_SOURCE 700
 #include "wilbryn.h"
 
@@ -22,6 +22,7 @@ extern __typeof__(wilbryn_check) plain_check, expert_check, plain_packed_check;
 extern __typeof__(wilbryn_heard) plain_heard, expert_heard, plain_packed_heard;
 extern __typeof__(wilbryn_settled) plain_settled, expert_settled, plain_packed_settled;
 extern __typeof__(wilbryn_meeting) plain_meeting, expert_meeting, plain_packed_meeting;
+extern __typeof__(wilbryn_panel) plain_panel, expert_panel, plain_packed_panel;
 
 /* Null where no earlier landing is linked in. */
 extern __typeof__(wilbryn_check) before_check __attribute__((weak));
@@ -36,18 +37,22 @@ struct version {
     __typeof__(wilbryn_heard) *heard;
     __typeof__(wilbryn_settled) *settled;
     __typeof__(wilbryn_meeting) *meeting;
+    __typeof__(wilbryn_panel) *panel;
 };
 
 static const struct version
-    plain = {"plain", UNPACKED, plain_check, plain_heard, plain_settled, plain_meeting},
-    expert = {"expert", UNPACKED, expert_check, expert_heard, expert_settled, expert_meeting},
-    before = {"before", UNPACKED, before_check, NULL, NULL, NULL},
-    wilbryn = {"wilbryn", UNPACKED, wilbryn_check, wilbryn_heard, wilbryn_settled, wilbryn_meeting},
+    plain = {"plain", UNPACKED, plain_check, plain_heard, plain_settled, plain_meeting,
+             plain_panel},
+    expert = {"expert", UNPACKED, expert_check, expert_heard, expert_settled, expert_meeting,
+              expert_panel},
+    before = {"before", UNPACKED, before_check, NULL, NULL, NULL, NULL},
+    wilbryn = {"wilbryn", UNPACKED, wilbryn_check, wilbryn_heard, wilbryn_settled, wilbryn_meeting,
+               wilbryn_panel},
     plain_packed = {"plain", PACKED, plain_packed_check, plain_packed_heard, plain_packed_settled,
-                    plain_packed_meeting},
-    before_packed = {"before", PACKED, before_packed_check, NULL, NULL, NULL},
+                    plain_packed_meeting, plain_packed_panel},
+    before_packed = {"before", PACKED, before_packed_check, NULL, NULL, NULL, NULL},
     wilbryn_packed = {"packed", PACKED, wilbryn_packed_check, wilbryn_packed_heard,
-                      wilbryn_packed_settled, wilbryn_packed_meeting};
+                      wilbryn_packed_settled, wilbryn_packed_meeting, wilbryn_packed_panel};
 
 /* Of the versions that are compared, the last is measured against the others. */
 enum { VERSIONS = 4 };
@@ -73,10 +78,12 @@ static unsigned below(unsigned limit) {
     return (unsigned)(seed % limit);
 }
 
+_Static_assert(3 * MOST <= WILBRYN_PANEL_LENGTH, "the longest output is a panel");
+
 /* What the calls are lent, for each form and N: two heads of one parlour just before a meeting, and
-   a buffer for verdicts, counts or records, in which none stands. */
+   a buffer for verdicts, counts, records or a text, in which none stands. */
 static struct lent {
-    uint8_t first[LONGEST], second[LONGEST], output[3 * MOST];
+    uint8_t first[LONGEST], second[LONGEST], output[WILBRYN_PANEL_LENGTH];
 } pairs_of[FORMS][MOST + 1][PAIRS], work;
 
 /* Images of the most heads, one behind the other. */
@@ -122,11 +129,19 @@ static void milk_and_meet(uint8_t images[MOST][LONGEST], struct lent *pair) {
     plain_meeting(images[a], len, images[b], len, pair->output, n);
 }
 
-/* Each pair comes from a list of its own, of 20 to 200 meetings with milkings between. */
+/* How many stalls the head of an image has heard of. */
+static uint32_t count_heard(const uint8_t *image) {
+    uint8_t records[3 * MOST];
+    return plain_heard(image, lens[UNPACKED], records, 3 * n);
+}
+
+/* Each pair comes from a list of its own, of 20 to 200 meetings with milkings between, or of more
+   until the first has heard of all stalls. */
 static void make_pair(struct lent *pair, struct lent *packed) {
     uint8_t images[MOST][LONGEST];
     make_fresh(images);
     for (unsigned left = 20 + below(181); left > 0; left--) milk_and_meet(images, pair);
+    while (count_heard(pair->first) < n) milk_and_meet(images, pair);
     memset(pair->output, 0xee, sizeof pair->output);
     *packed = *pair;
     plain_pack(pair->first, lens[UNPACKED], packed->first, lens[PACKED]);
@@ -167,6 +182,10 @@ static uint32_t heard(void) { return version->heard(work.first, len, work.output
 static uint32_t settled(void) { return version->settled(work.first, len, work.output, n); }
 static uint32_t meeting(void) {
     return version->meeting(work.first, len, work.second, len, work.output, n);
+}
+
+static uint32_t panel(void) {
+    return version->panel(work.first, len, work.output, WILBRYN_PANEL_LENGTH);
 }
 
 static void lay_out(const struct lent *pair) {
@@ -404,11 +423,8 @@ static void compare(const char *what, compared these, run *run, call *call) {
 
 /* How many stored images have heard of this many stalls. */
 static int count_stored(uint32_t heard) {
-    uint8_t records[3 * MOST];
     int count = 0;
-    for (int i = 0; i < STORED; i++) {
-        count += plain_heard(place(UNPACKED, i), lens[UNPACKED], records, sizeof records) == heard;
-    }
+    for (int i = 0; i < STORED; i++) count += count_heard(place(UNPACKED, i)) == heard;
     return count;
 }
 
@@ -451,10 +467,12 @@ int main(void) {
     compare("heard", on_images, run_pairs, heard);
     compare("settled", on_images, run_pairs, settled);
     compare("meeting", on_images, run_pairs, meeting);
+    compare("panel", on_images, run_pairs, panel);
     compare("packed check; wilbryn: that of the unpacked images", on_packed, run_in_place, check);
     compare("packed heard; wilbryn: that of the unpacked images", on_packed, run_pairs, heard);
     compare("packed settled; wilbryn: that of the unpacked images", on_packed, run_pairs, settled);
     compare("packed meeting; wilbryn: that of the unpacked images", on_packed, run_pairs, meeting);
+    compare("packed panel; wilbryn: that of the unpacked images", on_packed, run_pairs, panel);
     if (before_check != NULL) compare("check, since before", since_before, run_in_place, check);
     if (before_packed_check != NULL) {
         compare("packed check, since before", since_before_packed, run_in_place, check);

@@ -19,6 +19,7 @@ extern "C" {
         verdicts: *mut u8,
         verdicts_len: usize,
     ) -> u32;
+    fn wilbryn_panel(image: *const u8, len: usize, text: *mut u8, text_len: usize) -> u32;
 }
 
 /// A call that reads an image and writes into a buffer.
@@ -33,6 +34,7 @@ pub struct Calls {
     pub heard: Reading,
     pub settled: Reading,
     pub meeting: unsafe extern "C" fn(*mut u8, usize, *mut u8, usize, *mut u8, usize) -> u32,
+    pub panel: Reading,
 }
 
 pub static PLAIN: Calls = Calls {
@@ -43,6 +45,7 @@ pub static PLAIN: Calls = Calls {
     heard: wilbryn_heard,
     settled: wilbryn_settled,
     meeting: wilbryn_meeting,
+    panel: wilbryn_panel,
 };
 
 pub type Run = Box<[u8]>;
@@ -145,6 +148,14 @@ pub fn hex(bytes: &[u8]) -> String {
     bytes.iter().map(|byte| format!("{byte:02x}")).collect()
 }
 
+/// A record of a heard list: the stall and its yield.
+pub type Record = (usize, u16);
+
+pub fn records(list: &[u8]) -> Vec<Record> {
+    let record = |three: &[u8]| (three[0] as usize, u16::from_be_bytes([three[1], three[2]]));
+    list.chunks(3).map(record).collect()
+}
+
 fn show(who: &str, outcome: &Outcome) {
     println!("  {who} answers {}", outcome.answer);
     outcome.runs.iter().for_each(|run| println!("    {}", hex(run)));
@@ -240,6 +251,13 @@ impl Calls {
         let answer = self.form.meeting(&mut a, &mut b, &mut v);
         let model = Outcome { answer, runs: vec![a, b, v] };
         agree("meeting", &lent, &library, &model);
+        library
+    }
+    pub fn panel(&self, counts: &mut Counts, image: &[u8], before: &[u8]) -> Outcome {
+        let modelled = |image: &[u8], text: &mut [u8]| self.form.panel(image, text);
+        let [library, model] = read_into(self.panel, modelled, image, before);
+        agree("panel", &[image, before], &library, &model);
+        counts.add("panel", library.answer);
         library
     }
 }

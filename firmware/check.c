@@ -1,10 +1,11 @@
-/* The examples of document 01 with requests 2026-01 to 2026-03, 2026-05 and 2026-07, on the
-   functions of wilbryn.h. */
+/* The examples of document 01 with requests 2026-01 to 2026-03, 2026-05, 2026-07 and 2026-08, on
+   the functions of wilbryn.h. */
 #include "check_calls.h"
 
 #include <string.h>
 
 _Static_assert(WILBRYN_NOT_MILKED == 0xffff, "not milked is ffff");
+_Static_assert(WILBRYN_PANEL_LENGTH == 128, "the buffer of a panel has 128 bytes");
 
 /* The refusals 1 to 6. The first of each number is document 01's own example; alone: with no other
    fault; 0 is accepted. */
@@ -70,6 +71,7 @@ const struct form form = {
     .heard = wilbryn_heard,
     .settled = wilbryn_settled,
     .meeting = wilbryn_meeting,
+    .panel = wilbryn_panel,
     .examples = examples,
     .milked = "0201 0012 00000000 00000000 ffffffff 0000",
     .alone = "0302 ffff 000000000000 000001000000 000000000000 ffff0012ffff 000200",

@@ -5,8 +5,8 @@
 #include <stdlib.h>
 #include <string.h>
 
-static const char *const names[CALLS] = {"fresh",   "check",   "milking", "heard",
-                                         "settled", "meeting", "pack",    "unpack"};
+static const char *const names[CALLS] = {"fresh",   "check", "milking", "heard", "settled",
+                                         "meeting", "panel", "pack",    "unpack"};
 static unsigned counts[CALLS];
 const char *doing = "";
 
@@ -42,6 +42,14 @@ struct run from_hex(const char *hex) {
         if (*hex != ' ' && sscanf(hex, "%2x", &byte) == 1) bytes[run.len++] = (uint8_t)byte;
     }
     return copy(run);
+}
+
+/* What a panel with these lines leaves in its buffer. */
+struct run from_lines(const char *lines) {
+    struct run run = lend(WILBRYN_PANEL_LENGTH);
+    memset(run.bytes, 0, run.len);
+    memcpy(run.bytes, lines, strlen(lines));
+    return run;
 }
 
 void give_back(struct run run) { free(run.bytes); }
@@ -149,6 +157,36 @@ void read_into_all(enum call call, reading *reading, struct run image, struct ru
     }
 }
 
+/* lines: those of the text that is wanted. */
+static void panel(struct run image, const char *lines) {
+    struct run wanted = from_lines(lines);
+    read_into(PANEL, form.panel, (uint32_t)strlen(lines), image, wanted);
+    give_back(wanted);
+}
+
+/* Into buffers of some lengths, the right one among them. */
+static void panel_refused(uint32_t number, struct run image) {
+    size_t buffers[] = {0, WILBRYN_PANEL_LENGTH - 1, WILBRYN_PANEL_LENGTH, WILBRYN_PANEL_LENGTH + 1,
+                        2 * WILBRYN_PANEL_LENGTH};
+    for (int i = 0; i < 5; i++) {
+        reading_refused(PANEL, form.panel, 256 + number, image, buffers[i]);
+    }
+}
+
+/* The text, and what refused calls leave: for each other length of buffer, of which one has the low
+   byte of the right one, and for a bad yield. */
+static void panel_and_refuse(struct run image, const char *lines) {
+    panel(image, lines);
+    for (size_t buffer = 0; buffer <= 256 + WILBRYN_PANEL_LENGTH; buffer++) {
+        if (buffer == WILBRYN_PANEL_LENGTH) continue;
+        reading_refused(PANEL, form.panel, 256 + 8, image, buffer);
+    }
+    struct run bad = copy(image);
+    put_yield(bad, 2, 1000);
+    panel_refused(4, bad);
+    give_back(bad);
+}
+
 /* A byte for each of so many digits. */
 static struct run from_digits(const char *digits, size_t len) {
     struct run run = lend(len);
@@ -227,6 +265,8 @@ static void try_examples(void) {
         for (size_t buffer = 0; number != 0 && buffer <= 8; buffer++) {
             reading_refused(SETTLED, form.settled, number, image, buffer);
         }
+        reading_refused(PANEL, form.panel, 256 + (number == 0 ? 8 : number), image, 9);
+        if (number != 0) panel_refused(number, image);
         milking(number == 0 ? 4 : number, image, 1000);
         milking(number, image, 5);
         give_back(image);
@@ -250,7 +290,9 @@ static void try_fresh(void) {
             check(0, image);
             heard(0, image, 3 * n, "");
             settled(image, "00000000");
+            panel(image, "");
         }
+        panel_and_refuse(image, "");
         give_back(image);
     }
     doing = "the order 1, 2, 3 of a fresh image";
@@ -274,6 +316,7 @@ static void try_milking(void) {
     refuse_milkings(image);
     milking(0, image, 18);
     expect_hex("image", form.milked, image);
+    panel(image, "");
     milking(0, image, 999);
     refuse_milkings(image);
     milking(0, image, 0);
@@ -299,41 +342,62 @@ static void try_heard(void) {
     heard(3, last, 9, "010012 02ffff 03ffff");
     heard(256 + 8, last, 8, "");
     heard(256 + 8, last, 10, "");
+    doing = "the panels of the listing";
+    panel_and_refuse(first, "1 1 1.8\n2 2 -\n");
+    panel_and_refuse(last, "1 1 1.8\n2 2 -\n3 3 -\n");
     give_back(last);
     give_back(first);
 }
 
-/* Heard lists by rising stall, and in ranking order as request 2026-07 says. */
+/* Heard lists by rising stall, in ranking order as request 2026-07 says, and as the lines of text
+   that request 2026-08 says. */
 static const struct {
     const char *what;
     uint8_t n;
-    const char *by_stall, *ranking;
+    const char *by_stall, *ranking, *lines;
 } rankings[] = {
-    {"the larger yield first", 2, "010007 020012", "020012 010007"},
-    {"the larger yield first already", 2, "010012 020007", "010012 020007"},
-    {"the larger yield has the smaller low byte", 2, "0100ff 020100", "020100 0100ff"},
-    {"999 and 0", 2, "010000 0203e7", "0203e7 010000"},
-    {"two equal yields", 2, "010012 020012", "010012 020012"},
-    {"equal yields twice", 4, "010007 020012 030007 040012", "020012 040012 010007 030007"},
-    {"a larger one between equal ones", 3, "010012 020013 030012", "020013 010012 030012"},
-    {"0 before not milked", 2, "01ffff 020000", "020000 01ffff"},
-    {"0 twice before not milked", 4, "01ffff 020000 03ffff 040000", "020000 040000 01ffff 03ffff"},
+    {"the larger yield first", 2, "010007 020012", "020012 010007", "1 2 1.8\n2 1 0.7\n"},
+    {"the larger yield first already", 2, "010012 020007", "010012 020007", "1 1 1.8\n2 2 0.7\n"},
+    {"the larger yield has the smaller low byte", 2, "0100ff 020100", "020100 0100ff",
+     "1 2 25.6\n2 1 25.5\n"},
+    {"999 and 0", 2, "010000 0203e7", "0203e7 010000", "1 2 99.9\n2 1 0.0\n"},
+    {"two equal yields", 2, "010012 020012", "010012 020012", "1 1 1.8\n2 2 1.8\n"},
+    {"equal yields twice", 4, "010007 020012 030007 040012", "020012 040012 010007 030007",
+     "1 2 1.8\n2 4 1.8\n3 1 0.7\n4 3 0.7\n"},
+    {"a larger one between equal ones", 3, "010012 020013 030012", "020013 010012 030012",
+     "1 2 1.9\n2 1 1.8\n3 3 1.8\n"},
+    {"0 before not milked", 2, "01ffff 020000", "020000 01ffff", "1 2 0.0\n2 1 -\n"},
+    {"0 twice before not milked", 4, "01ffff 020000 03ffff 040000", "020000 040000 01ffff 03ffff",
+     "1 2 0.0\n2 4 0.0\n3 1 -\n4 3 -\n"},
     {"not milked among milked", 5, "01ffff 020012 03ffff 040063 05ffff",
-     "040063 020012 01ffff 03ffff 05ffff"},
-    {"all not milked", 3, "01ffff 02ffff 03ffff", "01ffff 02ffff 03ffff"},
-    {"stalls never heard between", 8, "020005 04ffff 050009 080005", "050009 020005 080005 04ffff"},
-    {"head 3 of 6 has heard of 3 and 6", 6, "030000 0603e7", "0603e7 030000"},
+     "040063 020012 01ffff 03ffff 05ffff", "1 4 9.9\n2 2 1.8\n3 1 -\n4 3 -\n5 5 -\n"},
+    {"all not milked", 3, "01ffff 02ffff 03ffff", "01ffff 02ffff 03ffff", "1 1 -\n2 2 -\n3 3 -\n"},
+    {"stalls never heard between", 8, "020005 04ffff 050009 080005", "050009 020005 080005 04ffff",
+     "1 5 0.9\n2 2 0.5\n3 8 0.5\n4 4 -\n"},
+    {"head 3 of 6 has heard of 3 and 6", 6, "030000 0603e7", "0603e7 030000",
+     "1 6 99.9\n2 3 0.0\n"},
+    {"each number of digits", 6, "010001 020009 03000a 040063 050064 060065",
+     "060065 050064 040063 03000a 020009 010001",
+     "1 6 10.1\n2 5 10.0\n3 4 9.9\n4 3 1.0\n5 2 0.9\n6 1 0.1\n"},
     {"eight equal yields", 8, "010012 020012 030012 040012 050012 060012 070012 080012",
-     "010012 020012 030012 040012 050012 060012 070012 080012"},
+     "010012 020012 030012 040012 050012 060012 070012 080012",
+     "1 1 1.8\n2 2 1.8\n3 3 1.8\n4 4 1.8\n5 5 1.8\n6 6 1.8\n7 7 1.8\n8 8 1.8\n"},
+    {"eight of the longest lines", 8, "010064 0203e7 030064 0403e7 050064 0603e7 070064 0803e7",
+     "0203e7 0403e7 0603e7 0803e7 010064 030064 050064 070064",
+     "1 2 99.9\n2 4 99.9\n3 6 99.9\n4 8 99.9\n5 1 10.0\n6 3 10.0\n7 5 10.0\n8 7 10.0\n"},
     {"eight in the order of stalls", 8, "0103e7 020200 0301ff 040100 0500ff 060001 070000 08ffff",
-     "0103e7 020200 0301ff 040100 0500ff 060001 070000 08ffff"},
+     "0103e7 020200 0301ff 040100 0500ff 060001 070000 08ffff",
+     "1 1 99.9\n2 2 51.2\n3 3 51.1\n4 4 25.6\n5 5 25.5\n6 6 0.1\n7 7 0.0\n8 8 -\n"},
     {"eight in reverse", 8, "010000 020001 0300ff 040100 0501ff 060200 0702ff 0803e7",
-     "0803e7 0702ff 060200 0501ff 040100 0300ff 020001 010000"},
+     "0803e7 0702ff 060200 0501ff 040100 0300ff 020001 010000",
+     "1 8 99.9\n2 7 76.7\n3 6 51.2\n4 5 51.1\n5 4 25.6\n6 3 25.5\n7 2 0.1\n8 1 0.0\n"},
     {"eight in reverse, stall 1 not milked", 8,
      "01ffff 020000 030001 040002 050003 060004 070005 080006",
-     "080006 070005 060004 050003 040002 030001 020000 01ffff"},
+     "080006 070005 060004 050003 040002 030001 020000 01ffff",
+     "1 8 0.6\n2 7 0.5\n3 6 0.4\n4 5 0.3\n5 4 0.2\n6 3 0.1\n7 2 0.0\n8 1 -\n"},
     {"eight of all kinds", 8, "010000 02ffff 0303e7 040012 05ffff 060012 0703e7 080000",
-     "0303e7 0703e7 040012 060012 010000 080000 02ffff 05ffff"},
+     "0303e7 0703e7 040012 060012 010000 080000 02ffff 05ffff",
+     "1 3 99.9\n2 7 99.9\n3 4 1.8\n4 6 1.8\n5 1 0.0\n6 8 0.0\n7 2 -\n8 5 -\n"},
 };
 
 enum { RANKINGS = sizeof rankings / sizeof rankings[0] };
@@ -377,16 +441,23 @@ static void try_rankings(void) {
         struct run records = from_hex(rankings[i].by_stall);
         struct run image = image_with(rankings[i].n, records);
         list_and_refuse(image, (uint32_t)records.len / 3, rankings[i].ranking);
+        panel_and_refuse(image, rankings[i].lines);
         give_back(image);
         give_back(records);
     }
     doing = "a list of one";
+    static const struct {
+        uint16_t yield;
+        const char *ranking, *lines;
+    } ones[] = {{18, "020012", "1 2 1.8\n"},
+                {WILBRYN_NOT_MILKED, "02ffff", "1 2 -\n"},
+                {0, "020000", "1 2 0.0\n"}};
     struct run alone = from_hex(form.alone);
-    list_and_refuse(alone, 1, "020012");
-    put_yield(alone, alone.len - 3 * 3 + 2, WILBRYN_NOT_MILKED);
-    list_and_refuse(alone, 1, "02ffff");
-    put_yield(alone, alone.len - 3 * 3 + 2, 0);
-    list_and_refuse(alone, 1, "020000");
+    for (int i = 0; i < 3; i++) {
+        put_yield(alone, alone.len - 3 * 3 + 2, ones[i].yield);
+        list_and_refuse(alone, 1, ones[i].ranking);
+        panel_and_refuse(alone, ones[i].lines);
+    }
     give_back(alone);
 }
 

@@ -30,6 +30,7 @@ extern const struct form {
     __typeof__(wilbryn_milking) *milking;
     reading *heard, *settled;
     __typeof__(wilbryn_meeting) *meeting;
+    reading *panel;
     const struct example *examples; /* the last has no image */
     const char *milked;             /* stall 1 of 2, fresh but for the yield 18 */
     const char *alone;              /* stall 2 of 3, which has heard of itself alone, with 18 */
@@ -37,7 +38,7 @@ extern const struct form {
     const char *apart[2];           /* two that do not belong together: the example of 9 */
 } form;
 
-enum call { FRESH, CHECK, MILKING, HEARD, SETTLED, MEETING, PACK, UNPACK, CALLS };
+enum call { FRESH, CHECK, MILKING, HEARD, SETTLED, MEETING, PANEL, PACK, UNPACK, CALLS };
 
 /* What is being tried, for the report of a difference. */
 extern const char *doing;
@@ -45,6 +46,7 @@ extern const char *doing;
 struct run lend(size_t len);
 struct run copy(struct run from);
 struct run from_hex(const char *hex);
+struct run from_lines(const char *lines);
 struct run part(struct run run, size_t from, size_t to);
 void give_back(struct run run);
 
@@ -73,8 +75,8 @@ struct parlour {
 struct parlour open_parlour(uint8_t n);
 void shut_parlour(struct parlour parlour);
 
-/* Everything that the form's examples and document 01's lists say, with requests 2026-05 and
-   2026-07. */
+/* Everything that the form's examples and document 01's lists say, with requests 2026-05, 2026-07
+   and 2026-08. */
 void try_form(void);
 
 void print_counts(void);

@@ -1,5 +1,6 @@
-/* The examples of document 01 packed by hand as request 2026-04 says, and those of requests 2026-05
-   and 2026-07, on the functions of wilbryn.h for packed images; and packing and unpacking. */
+/* The examples of document 01 packed by hand as request 2026-04 says, and those of requests
+   2026-05, 2026-07 and 2026-08, on the functions of wilbryn.h for packed images; and packing and
+   unpacking. */
 #include "check_calls.h"
 
 #include <string.h>
@@ -85,6 +86,7 @@ const struct form form = {
     .heard = wilbryn_packed_heard,
     .settled = wilbryn_packed_settled,
     .meeting = wilbryn_packed_meeting,
+    .panel = wilbryn_packed_panel,
     .examples = examples,
     .milked = "0201 0012 0020 0020 ffffffff 0000",
     .alone = "0302 ffff 002040 000040 002040 ffff0012ffff 000200",
@@ -190,10 +192,11 @@ static void expect_only(struct run block, const struct run *lent, int runs) {
 /* Every call on parts of one block, with room between them. */
 static void try_room(void) {
     doing = "runs with room around them";
-    struct run block = lend(512);
+    struct run block = lend(424 + WILBRYN_PANEL_LENGTH);
     struct run one = part(block, 16, 108), two = part(block, 112, 204);
     struct run image = part(block, 208, 364), verdicts = part(block, 368, 376);
     struct run records = part(block, 380, 404), counts = part(block, 408, 416);
+    struct run text = part(block, 420, 420 + WILBRYN_PANEL_LENGTH);
     expect(FRESH, 0, form.fresh(one.bytes, one.len, 8, 1), NULL, 0);
     expect(FRESH, 0, form.fresh(two.bytes, two.len, 8, 8), NULL, 0);
     expect(MILKING, 0, form.milking(two.bytes, two.len, 999), NULL, 0);
@@ -204,11 +207,15 @@ static void try_room(void) {
     expect_hex("the records", "0803e7 01ffff 000000000000000000 000000000000000000", records);
     expect(SETTLED, 0, form.settled(two.bytes, two.len, counts.bytes, counts.len), NULL, 0);
     expect_hex("the counts", "0200000000000002", counts);
+    struct run wanted = from_lines("1 8 99.9\n2 1 -\n");
+    expect(PANEL, 15, form.panel(two.bytes, two.len, text.bytes, text.len), NULL, 0);
+    expect_bytes("the text", wanted, text);
+    give_back(wanted);
     expect(UNPACK, 0, wilbryn_unpack(one.bytes, one.len, image.bytes, image.len), NULL, 0);
     expect(PACK, 0, wilbryn_pack(image.bytes, image.len, two.bytes, two.len), NULL, 0);
     expect_bytes("packed again", one, two);
-    struct run lent[] = {one, two, image, verdicts, records, counts};
-    expect_only(block, lent, 6);
+    struct run lent[] = {one, two, image, verdicts, records, counts, text};
+    expect_only(block, lent, 7);
     give_back(block);
 }
 

@@ -3,6 +3,7 @@
 
 #[allow(dead_code)]
 mod calls;
+mod heads;
 mod heard;
 #[allow(dead_code)]
 mod images;
@@ -168,7 +169,7 @@ fn main() {
     let tried = labels(&mut random, &mut counts, share_of(50).max(1));
     neighbours(&mut random, &mut counts, share_of(8).max(1));
     all_yields(&mut counts);
-    heard::compare(&mut random, &PLAIN, &mut counts, share_of(100));
+    heard::compare(&mut random, &PLAIN, &mut counts, share_of(1_000));
     counts.print();
     counts.require("fresh", 0..=3);
     counts.require("check", 0..=6);

@@ -8,11 +8,8 @@ cd "$(dirname "${BASH_SOURCE[0]}")/.."
 out=$PWD/target/firmware
 mkdir -p "$out"
 if [ -z "$lib" ]; then
-    rt staticlib head
-    rt staticlib packed
-    # Both archives as one object, for WILBRYN_LIB names one file too.
-    lib=$out/wilbryn.o
-    ld -r --whole-archive target/staticlib/libhead.a target/staticlib/libpacked.a -o "$lib"
+    rt staticlib calls
+    lib=$PWD/target/staticlib/libcalls.a
 fi
 if [ -z "$program" ]; then
     rt check wilbryn

@@ -1,5 +1,6 @@
 //! Compares the library's meeting with the model, and what lists leave with their history.
 
+#[allow(dead_code)]
 mod calls;
 mod history;
 #[allow(dead_code)]

@@ -1,5 +1,5 @@
-//! Document 01 with requests 2026-01, 2026-02, 2026-04, 2026-05 and 2026-07 in plain Rust: the
-//! other side of every comparison.
+//! Document 01 with requests 2026-01, 2026-02, 2026-04, 2026-05, 2026-07 and 2026-08 in plain Rust:
+//! the other side of every comparison.
 //! Stalls, rows and columns count from 1 as they do there, so index 0 of each array is unused.
 
 use std::cmp::Reverse;
@@ -11,6 +11,20 @@ const YIELD_LIMIT: u16 = 999;
 /// Not milked. Request 2026-01, in place of "0 when fresh" and "None has yield 0": "it is the current
 /// yield of a fresh head, and the stall yield of a stall never heard".
 pub const NOT_MILKED: u16 = 0xffff;
+
+/// Request 2026-08: "a lent buffer of 128 bytes".
+pub const PANEL_LENGTH: usize = 128;
+
+/// Request 2026-08: "yield in litres with one decimal (18 becomes `1.8`), or `-` for not milked",
+/// "numbers without leading zeros (0 becomes `0.0`)". Of at least two digits the last is the decimal.
+fn litres(decilitres: u16) -> String {
+    if decilitres == NOT_MILKED {
+        return String::from("-");
+    }
+    let digits = format!("{decilitres:02}");
+    let (whole, decimal) = digits.split_at(digits.len() - 1);
+    [whole, decimal].join(".")
+}
 
 /// What a yield in an image may be, be it current or a stall's, heard or not. Request 2026-01:
 /// "Check 4 admits it in images".
@@ -164,6 +178,14 @@ impl Table {
         milked.sort_by_key(|&r| (Reverse(self.yields[r]), r));
         not_milked.sort();
         [milked, not_milked].concat()
+    }
+
+    /// Request 2026-08: "rank, stall, yield", "single blanks between, newline after each"; "Each
+    /// heard stall has one line, and rank counts the lines from 1, equal yields too. Order as in
+    /// 2026-07".
+    fn panel(&self) -> String {
+        let ranked = (1..).zip(self.ranking());
+        ranked.map(|(rank, r)| format!("{rank} {r} {}\n", litres(self.yields[r]))).collect()
     }
 
     pub fn mark(&self, r: usize, s: usize) -> bool {
@@ -347,6 +369,21 @@ impl Form {
             verdicts,
             label,
         })
+    }
+
+    /// Request 2026-08: "the rest of the buffer is zeros and the written length comes back. 01's
+    /// checks 1 to 6 come first. It refuses with 8 a buffer of another length".
+    pub fn panel(self, image: &[u8], text: &mut [u8]) -> u32 {
+        match self.read(image) {
+            Err(number) => 256 + number,
+            Ok(_) if text.len() != PANEL_LENGTH => 256 + 8,
+            Ok(table) => {
+                let lines = table.panel();
+                text.fill(0);
+                text[..lines.len()].copy_from_slice(lines.as_bytes());
+                lines.len() as u32
+            }
+        }
     }
 
     /// Writes what an image says in the other form: packs it, or unpacks it. Request 2026-04: "an

@@ -15,7 +15,8 @@ macro_rules! export {
         $milking:ident,
         $heard:ident,
         $settled:ident,
-        $meeting:ident
+        $meeting:ident,
+        $panel:ident
     ) => {
         #[no_mangle]
         unsafe extern "C" fn $fresh(image: *mut u8, len: usize, n: u8, stall: u8) -> u32 {
@@ -67,6 +68,16 @@ macro_rules! export {
                 from_raw_parts_mut(verdicts, verdicts_len),
             )
         }
+
+        #[no_mangle]
+        unsafe extern "C" fn $panel(
+            image: *const u8,
+            len: usize,
+            text: *mut u8,
+            text_len: usize,
+        ) -> u32 {
+            $form.panel(from_raw_parts(image, len), from_raw_parts_mut(text, text_len))
+        }
     };
 }
 
@@ -77,7 +88,8 @@ export!(
     wilbryn_milking,
     wilbryn_heard,
     wilbryn_settled,
-    wilbryn_meeting
+    wilbryn_meeting,
+    wilbryn_panel
 );
 export!(
     Form::Packed,
@@ -86,7 +98,8 @@ export!(
     wilbryn_packed_milking,
     wilbryn_packed_heard,
     wilbryn_packed_settled,
-    wilbryn_packed_meeting
+    wilbryn_packed_meeting,
+    wilbryn_packed_panel
 );
 
 #[no_mangle]

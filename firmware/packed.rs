@@ -3,6 +3,7 @@
 
 #[allow(dead_code)]
 mod calls;
+mod heads;
 mod heard;
 #[allow(dead_code)]
 mod images;
@@ -61,8 +62,8 @@ impl Test {
         }
     }
 
-    /// Every call on a packed image of any kind. It meets two others: the first of them as first
-    /// and as second, the other as first. Answers the number of the check.
+    /// Every call of the tables on a packed image of any kind. It meets two others: the first of
+    /// them as first and as second, the other as first. Answers the number of the check.
     fn call_all(&mut self, random: &mut Random, image: &[u8], others: [&[u8]; 2]) -> u32 {
         let n = image.first().map_or(2, |&n| n.min(9) as usize);
         let counts = &mut self.packed.counts;
@@ -306,9 +307,9 @@ fn damaged(random: &mut Random, test: &mut Test, steps: usize) {
     }
 }
 
-/// Heard lists of every order: so many in a hundred of them.
-fn heard_lists(random: &mut Random, test: &mut Test, percent: usize) {
-    heard::compare(random, &PACKED, &mut test.packed.counts, percent);
+/// Heard lists of every order: so many in a thousand of them.
+fn heard_lists(random: &mut Random, test: &mut Test, share: usize) {
+    heard::compare(random, &PACKED, &mut test.packed.counts, share);
 }
 
 /// Each call was accepted, and refused in each way that it can be; each verdict came up, and the
@@ -350,7 +351,7 @@ fn main() {
         ("all bytes", 0x5eed_0035, share_of(256), all_bytes),
         ("lengths", 0x5eed_0036, share_of(256), lengths),
         ("damaged", 0x5eed_0037, share_of(100_000), damaged),
-        ("heard lists", 0x5eed_0038, share_of(100), heard_lists),
+        ("heard lists", 0x5eed_0038, share_of(1_000), heard_lists),
     ];
     for (kind, seed, share, part) in parts {
         println!("packed: {kind}: seed {seed:#x}");

@@ -30,6 +30,7 @@ extern "C" {
         verdicts: *mut u8,
         verdicts_len: usize,
     ) -> u32;
+    fn wilbryn_packed_panel(packed: *const u8, len: usize, text: *mut u8, text_len: usize) -> u32;
 }
 
 pub static PACKED: Calls = Calls {
@@ -40,6 +41,7 @@ pub static PACKED: Calls = Calls {
     heard: wilbryn_packed_heard,
     settled: wilbryn_packed_settled,
     meeting: wilbryn_packed_meeting,
+    panel: wilbryn_packed_panel,
 };
 
 /// Packs an image, or unpacks one that is packed, into a buffer. An accepted one is turned back

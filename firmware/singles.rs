@@ -68,7 +68,7 @@ pub fn counts_len(random: &mut Random, n: usize) -> usize {
     }
 }
 
-/// Each call on one image, with every part of it right or wrong.
+/// Each call of the tables on one image, with every part of it right or wrong.
 pub fn call_each(random: &mut Random, calls: &Calls, counts: &mut Counts) {
     let mut image = image(random, calls.form);
     calls.check(counts, &image);

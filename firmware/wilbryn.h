@@ -19,8 +19,8 @@
      1  image empty, or N not 2 to 8        6  bad order marks
      2  length not the one for N; a         7  two images differ in N or have one stall
         packed image has its own            8  verdicts or counts not N bytes, records not
-     3  stall not 1 to N                       3 * N, or the output of pack or unpack not the
-     4  a yield over 999 and not 0xffff        length for N
+     3  stall not 1 to N                       3 * N, text not WILBRYN_PANEL_LENGTH, or the
+     4  a yield over 999 and not 0xffff        output of pack or unpack not the length for N
      5  a bad name                          9  the two images do not belong together
 
    The check of an image tries 1 to 6 in order and stops at the first that applies. A stall never
@@ -53,7 +53,11 @@ extern "C" {
    that gave nothing has 0. */
 #define WILBRYN_NOT_MILKED 0xffff
 
-/* The heard lists and the meetings answer this plus the number of a refusal. */
+/* The bytes of the buffer that a wall panel is written into, for every N. Eight lines have at most
+   72, so a zero always follows the text. */
+#define WILBRYN_PANEL_LENGTH 128
+
+/* The heard lists, the meetings and the wall panels answer this plus the number of a refusal. */
 #define WILBRYN_REFUSED 256
 
 /* Writes the fresh image of a stall in a parlour of n: n, stall, the current yield and all n yields
@@ -100,6 +104,22 @@ uint32_t wilbryn_settled(const uint8_t *image, size_t len, uint8_t *counts, size
 uint32_t wilbryn_meeting(uint8_t *first, size_t first_len, uint8_t *second, size_t second_len,
                          uint8_t *verdicts, size_t verdicts_len);
 
+/* Writes a head's wall panel in ASCII: a line for each stall that the head has heard of, itself
+   included, in the order of wilbryn_heard; then zeros to the end. A line is the rank, the stall and
+   the yield, with a blank between each two, and a newline. The rank counts the lines from 1, those
+   of equal yields too. The yield is in litres with one decimal (18 decilitres are 1.8, 999 are 99.9
+   and 0 are 0.0), or - for not milked. No number has leading zeros. This is what a head writes that
+   has heard 21.7 litres of stall 2, 1.8 of stalls 1 and 4, and of stall 3 that it was not milked:
+
+     1 2 21.7
+     2 1 1.8
+     3 4 1.8
+     4 3 -
+
+   Answers the length of the text, newlines counted, which is 0 where nobody was heard; or 256 plus
+   1 to 6 for the image, then 256 + 8 if text_len is not WILBRYN_PANEL_LENGTH. */
+uint32_t wilbryn_panel(const uint8_t *image, size_t len, uint8_t *text, size_t text_len);
+
 /* Writes the packed image of an image. Answers 0, or 1 to 6 for the image, then 8 if packed_len is
    not WILBRYN_PACKED_LENGTH(N). */
 uint32_t wilbryn_pack(const uint8_t *image, size_t len, uint8_t *packed, size_t packed_len);
@@ -110,8 +130,8 @@ uint32_t wilbryn_pack(const uint8_t *image, size_t len, uint8_t *packed, size_t 
 uint32_t wilbryn_unpack(const uint8_t *packed, size_t packed_len, uint8_t *image, size_t len);
 
 /* The calls above on packed images. Each answers what the call above answers to the unpacked ones,
-   and leaves the same verdicts, counts and records, and the packed form of the images that that
-   call leaves. */
+   and leaves the same verdicts, counts, records and text, and the packed form of the images that
+   that call leaves. */
 
 /* Writes the packed form of the fresh image. Answers 0, or 1 for n, 2 for packed_len, 3 for stall,
    tried in this order. */
@@ -136,6 +156,11 @@ uint32_t wilbryn_packed_settled(const uint8_t *packed, size_t packed_len, uint8_
    packed image, 1 to 6 for the second, then 7, 8, 9. */
 uint32_t wilbryn_packed_meeting(uint8_t *first, size_t first_len, uint8_t *second,
                                 size_t second_len, uint8_t *verdicts, size_t verdicts_len);
+
+/* As wilbryn_panel. Answers the length of the text, or 256 plus 1 to 6 for the packed image, then
+   256 + 8 if text_len is not WILBRYN_PANEL_LENGTH. */
+uint32_t wilbryn_packed_panel(const uint8_t *packed, size_t packed_len, uint8_t *text,
+                              size_t text_len);
 
 #ifdef __cplusplus
 }
