@@ -9,7 +9,7 @@ use Rattle.image.specs.Encode.{tableOf}
 use Rattle.image.specs.Made.{Made}
 use Rattle.image.proofs.Accepted.{Accepted}
 use Rattle.image.proofs.Passing.{passing}
-use Rattle.image.proofs.NameBytes.{never, name-in, limit-bits}
+use Rattle.image.proofs.NameBytes.{never, name-in, limit-bits, limit-five}
 
 pub accepted-made : {s : List ℕ} {n own : ℕ} → Accepted s n own → Made n own (tableOf s n)
 unfolding tableOf nameAt heardAt badYields badDiagonal badUnheard badRow badNames badOrder badMarks
@@ -30,6 +30,8 @@ accepted-made {s} {n} {own} w =
     }
 
 -- each label byte is within the limit, and that is below 32
-pub label-bits : {s : List ℕ} {n own : ℕ} → Accepted s n own → (r c : ℕ) → 1 ≤ r → r ≤ n → 1 ≤ c → c ≤ n → labelAt s n r c < 2 ^ 5
+pub label-bits : {s : List ℕ} {n own : ℕ} → Accepted s n own → (r c : ℕ) → 1 ≤ r → r ≤ n → 1 ≤ c → c ≤ n → (labelAt s n r c < 2 ^ 6) × (n ≤ 8 → labelAt s n r c < 2 ^ 5)
 unfolding badRow badNames
-label-bits {n = n} w r c i j k l = let names = simp passing at (w .names) in omega (arith, names r i j .0 .0 c k l .1, limit-bits n (w .frame .n-to))
+label-bits {n = n} w r c i j k l =
+    let names = simp passing at (w .names) in
+    (omega (arith, names r i j .0 .0 c k l .1, limit-bits n (w .frame .n-to)), λ m. omega (arith, names r i j .0 .0 c k l .1, limit-five n m))

@@ -71,6 +71,9 @@ xor-none a b = elim (ℕ-discrete a b) [
   | no f ↦ ne-eqb (bitXor a b) 0 (λ e. f (xor-zero a b e)) ∙ sym (ne-eqb a b f)
 ]
 
+pub xor-differ : (a b : ℕ) → not (eqb (bitXor a b) 0) ≡ not (eqb a b)
+xor-differ a b = ap not (xor-none a b)
+
 -- The lanes of a number
 
 pub lane-first : (width x : ℕ) → lane width x 0 ≡ x % 2 ^ width

@@ -14,9 +14,9 @@ pub mod Zeros
 pub mod Blocks
 pub mod Has
 pub mod OrderEntry
-pub mod OrderTest
 pub mod Encoding
 pub mod StallSets
+pub mod OrderTest
 pub mod Accepted
 pub mod FreshTable
 pub mod Fill
@@ -25,7 +25,6 @@ pub mod Passing
 pub mod NameBytes
 pub mod NameLanes
 pub mod YieldLanes
-pub mod MarkLanes
 pub mod RowWords
 pub mod Made
 pub mod MadeAccepted

@@ -39,7 +39,11 @@ same-bytes p l q k d e i =
     let b : p ∷ l ∷ [] ≡ q ∷ k ∷ [] = sym (bytes-back p l d) ∙ ap nameBytes i ∙ bytes-back q k e in
     (cc, cc)
 
--- the limit of labels, in five bits
-pub limit-bits : (n : ℕ) → n ≤ largest → labelLimit n < 2 ^ 5
+-- the limit of labels: in six bits, and of eight heads in five
+pub limit-bits : (n : ℕ) → n ≤ largest → labelLimit n < 2 ^ 6
 unfolding labelLimit
 limit-bits n l = omega arith
+
+pub limit-five : (n : ℕ) → n ≤ 8 → labelLimit n < 2 ^ 5
+unfolding labelLimit
+limit-five n l = omega arith

@@ -10,6 +10,7 @@ use lib.Dec.{eqb, leb, ltb}
 use Rattle.image.specs.Stalls.{some}
 use Rattle.image.specs.Lanes.{lanes, lane, pairs}
 use Rattle.image.specs.Check.{badName}
+use Rattle.image.specs.Columns.{Low, columnsFrom}
 use Rattle.image.proofs.Search.{some-agree}
 use Rattle.image.proofs.Bits.{has-and, has-or, bit-test, has-top}
 use Rattle.image.proofs.Lanes.{sevens-lane, eighths-lane, lane-and, lane-or, lane-xor, lane-next, lane-lt, lane-add, sum-lt, lane-sub, sub-le, lane-test, pairs-lt, pair-lt, pair-first, pair-second, some-pairs, or-test, xor-none}
@@ -90,15 +91,16 @@ label-mask s a b = ap (λ x. lane 8 x (s * 2 - 1)) partner-eighths ∙ pair-seco
 
 -- Four names
 
-module _ (w n limit c : ℕ) (w-in : w < 2 ^ 64) (n-to : n ≤ 127) (limit-to : limit ≤ 127) (c-to : c ≤ 123) where
+module _ (w n limit columns : ℕ) (w-in : w < 2 ^ 64) (n-to : n ≤ 127) (limit-to : limit ≤ 127) (columns-low : Low columns) where
   abbrev low : ℕ
   low = bitAnd w 0x7f7f7f7f7f7f7f7f
 
   abbrev limits : ℕ
   limits = pairs (λ j. 127 - n) (λ j. 127 - limit)
 
-  abbrev columns : ℕ
-  columns = pairs (λ j. c + suc j) (λ j. 0)
+  -- the column of a name
+  abbrev column : ℕ → ℕ
+  column s = lane 8 columns (s * 2 - 2)
 
   low-in : low < 2 ^ 64
   low-in = omega (arith, and-le-l w 0x7f7f7f7f7f7f7f7f)
@@ -131,22 +133,11 @@ module _ (w n limit c : ℕ) (w-in : w < 2 ^ 64) (n-to : n ≤ 127) (limit-to : 
       ∙ ap (λ x. x + lane 8 limits i) (low-lane i l)
 
   -- the difference that is 128 exactly where the partner is the column
-  columns-in : columns < 2 ^ 64
-  columns-in = pairs-lt (λ j. c + suc j) (λ j. 0) (λ j l. omega arith) (λ j l. omega arith)
-
-  partner-column : (s : ℕ) → 1 ≤ s → s ≤ 4 → lane 8 columns (s * 2 - 2) ≡ c + s
-  partner-column s a b =
-      let e : c + suc (s - 1) ≡ c + s = omega arith in
-      pair-first (λ j. c + suc j) (λ j. 0) (λ j l. omega arith) (λ j l. omega arith) s a b ∙ e
-
-  columns-lt : (i : ℕ) → i < 8 → lane 8 columns i < 128
-  columns-lt = pair-lt (λ j. c + suc j) (λ j. 0) (λ j l. omega arith) (λ j l. omega arith) 128 (λ j l. omega arith) (λ j l. omega arith)
-
   unlike-in : bitXor low columns < 2 ^ 64
-  unlike-in = xor-lt 64 low columns low-in columns-in
+  unlike-in = xor-lt 64 low columns low-in (columns-low .word)
 
   unlike-lt : (i : ℕ) → i < 8 → lane 8 (bitXor low columns) i < 128
-  unlike-lt i l = rw (lane-xor 8 low columns i) (xor-lt 7 (lane 8 low i) (lane 8 columns i) (low-lt i l) (columns-lt i l))
+  unlike-lt i l = rw (lane-xor 8 low columns i) (xor-lt 7 (lane 8 low i) (lane 8 columns i) (low-lt i l) (columns-low .bytes i l))
 
   unlike-le : (i : ℕ) → i < 8 → lane 8 (bitXor low columns) i ≤ lane 8 0x8080808080808080 i
   unlike-le i l = omega (arith, unlike-lt i l, eighths-lane i l)
@@ -201,18 +192,17 @@ module _ (w n limit c : ℕ) (w-in : w < 2 ^ 64) (n-to : n ≤ 127) (limit-to : 
       ∙ top-or b (b % 128 + lane 8 limits i) u v
 
   partner-flags : (s : ℕ) → 1 ≤ s → s ≤ 4 → not (eqb (lane 8 partner-bits (s * 2 - 2)) 0)
-      ≡ (leb 128 (128 - bitXor (lane 8 w (s * 2 - 2) % 128) (c + s)) || leb 128 (lane 8 w (s * 2 - 1) % 128 + 127) && leb 128 (128 - lane 8 w (s * 2 - 2) % 128))
+      ≡ (leb 128 (128 - bitXor (lane 8 w (s * 2 - 2) % 128) (column s)) || leb 128 (lane 8 w (s * 2 - 1) % 128 + 127) && leb 128 (128 - lane 8 w (s * 2 - 2) % 128))
   partner-flags s a b =
       let i = s * 2 - 2 in
       let l : i < 8 = omega arith in
       let next : suc (s * 2 - 2) ≡ s * 2 - 1 = omega arith in
       let p = lane 8 w (s * 2 - 2) in
       let q = lane 8 w (s * 2 - 1) in
-      let own : lane 8 (0x8080808080808080 - bitXor low columns) i ≡ 128 - bitXor (p % 128) (c + s) =
-      own-lane i l ∙ ap (λ x. 128 - bitXor (p % 128) x) (partner-column s a b) in
+      let own : lane 8 (0x8080808080808080 - bitXor low columns) i ≡ 128 - bitXor (p % 128) (column s) = own-lane i l in
       let labelled : lane 8 ((low + 0x7f7f7f7f7f7f7f7f) / 256) i ≡ q % 128 + 127 =
       sym (lane-next 8 (low + 0x7f7f7f7f7f7f7f7f) i) ∙ ap (lane 8 (low + 0x7f7f7f7f7f7f7f7f)) next ∙ given-lane (s * 2 - 1) (omega arith) in
-      let x = 128 - bitXor (p % 128) (c + s) in
+      let x = 128 - bitXor (p % 128) (column s) in
       let y = bitAnd (q % 128 + 127) (128 - p % 128) in
       let x-in : x < 256 = omega arith in
       let y-in : y < 256 = omega (arith, and-le-r (q % 128 + 127) (128 - p % 128)) in
@@ -240,7 +230,7 @@ module _ (w n limit c : ℕ) (w-in : w < 2 ^ 64) (n-to : n ≤ 127) (limit-to : 
   unfolding flag
   flag-is i = ap (λ z. not (eqb z 0)) (lane-or 8 over-bits partner-bits i) ∙ or-test (lane 8 over-bits i) (lane 8 partner-bits i)
 
-  name-flags : (s : ℕ) → 1 ≤ s → s ≤ 4 → (flag (s * 2 - 2) || flag (s * 2 - 1)) ≡ badName n limit (c + s) (lane 8 w (s * 2 - 2)) (lane 8 w (s * 2 - 1))
+  name-flags : (s : ℕ) → 1 ≤ s → s ≤ 4 → (flag (s * 2 - 2) || flag (s * 2 - 1)) ≡ badName n limit (column s) (lane 8 w (s * 2 - 2)) (lane 8 w (s * 2 - 1))
   unfolding partner-flag label-flag
   name-flags s a b =
       let p = lane 8 w (s * 2 - 2) in
@@ -250,7 +240,7 @@ module _ (w n limit c : ℕ) (w-in : w < 2 ^ 64) (n-to : n ≤ 127) (limit-to : 
       (flag-is (s * 2 - 1)
       ∙ ap₂ _||_ (over-flag (s * 2 - 1) (omega arith) ∙ ap (λ x. leb 128 q || leb 128 (q % 128 + x)) (label-limit s a b)) (label-flags s a b)
       ∙ or-false (leb 128 q || leb 128 (q % 128 + (127 - limit))))
-      ∙ name-test n limit (c + s) p q n-to limit-to
+      ∙ name-test n limit (column s) p q n-to limit-to
 
   bits-in : bitOr over-bits partner-bits < 2 ^ 64
   bits-in =
@@ -259,10 +249,34 @@ module _ (w n limit c : ℕ) (w-in : w < 2 ^ 64) (n-to : n ≤ 127) (limit-to : 
       (omega (arith, and-le-r (bitOr (0x8080808080808080 - bitXor low columns) (bitAnd ((low + 0x7f7f7f7f7f7f7f7f) / 256) (0x8080808080808080 - low))) 0x0080008000800080))
 
   pub four-test : not (eqb (bitOr over-bits partner-bits) 0)
-      ≡ some 4 (λ j. badName n limit (c + j) (lane 8 w (j * 2 - 2)) (lane 8 w (j * 2 - 1)))
+      ≡ some 4 (λ j. badName n limit (column j) (lane 8 w (j * 2 - 2)) (lane 8 w (j * 2 - 1)))
   unfolding flag
   four-test =
       lane-test 8 8 (bitOr over-bits partner-bits) bits-in
       ∙ some-pairs 4 (λ j. flag (j - 1))
-      ∙ some-agree 4 (λ j. flag (j * 2 - 1 - 1) || flag (j * 2 - 1)) (λ j. badName n limit (c + j) (lane 8 w (j * 2 - 2)) (lane 8 w (j * 2 - 1)))
+      ∙ some-agree 4 (λ j. flag (j * 2 - 1 - 1) || flag (j * 2 - 1)) (λ j. badName n limit (column j) (lane 8 w (j * 2 - 2)) (lane 8 w (j * 2 - 1)))
       (λ s a b. let e : s * 2 - 1 - 1 ≡ s * 2 - 2 = omega arith in ap (λ i. flag i || flag (s * 2 - 1)) e ∙ name-flags s a b)
+
+-- Columns
+
+module _ (c : ℕ) (c-to : c ≤ 123) where
+  pub columns-low : Low (columnsFrom c)
+  columns-low =
+      record {
+        word = pairs-lt (λ j. c + suc j) (λ j. 0) (λ j l. omega arith) (λ j l. omega arith);
+        bytes = pair-lt (λ j. c + suc j) (λ j. 0) (λ j l. omega arith) (λ j l. omega arith) 128 (λ j l. omega arith) (λ j l. omega arith);
+      }
+
+  pub column-is : (s : ℕ) → 1 ≤ s → s ≤ 4 → lane 8 (columnsFrom c) (s * 2 - 2) ≡ c + s
+  column-is s a b =
+      let e : c + suc (s - 1) ≡ c + s = omega arith in
+      pair-first (λ j. c + suc j) (λ j. 0) (λ j l. omega arith) (λ j l. omega arith) s a b ∙ e
+
+pub first-columns : 0x0004000300020001 ≡ columnsFrom 0
+unfolding pairs lanes
+first-columns = refl
+
+-- m columns on
+pub columns-on : (c m : ℕ) → columnsFrom c + 0x0001000100010001 * m ≡ columnsFrom (c + m)
+unfolding pairs lanes
+columns-on c m = omega arith

@@ -9,19 +9,16 @@ use lib.Bits.{bitAnd, and-mask}
 use lib.ListN.{getD}
 use Rattle.image.specs.Stalls.{some}
 use Rattle.image.specs.Lanes.{lanes, lane}
-use Rattle.image.specs.Layout.{labelLimit, partnerAt, labelAt}
-use Rattle.image.specs.Check.{badName, badDiagonal}
+use Rattle.image.specs.Check.{badName}
+use Rattle.image.specs.Columns.{columnsFrom}
 use Rattle.image.proofs.Search.{some-agree}
 use Rattle.image.proofs.Windows.{one-window, some-split}
 use Rattle.image.proofs.Lanes.{lane-of, lane-within, lane-behind}
+use Rattle.image.proofs.NameLanes.{column-is, columns-on}
 
 -- no name is not a bad one
 none-good : (n limit c : ℕ) → 1 ≤ c → badName n limit c 0 0 ≡ false
 none-good n limit c l = rw (le-ltb n 0 (omega arith), ne-eqb 0 c (λ e. omega arith), le-ltb limit 0 (omega arith))
-
--- a name of row r is bad by itself, or not the own row's name of stall r
-abbrev pub bad-entries : List ℕ → ℕ → ℕ → ℕ → Bool
-bad-entries s n own r = some n (λ c. badName n (labelLimit n) c (partnerAt s n r c) (labelAt s n r c)) || badDiagonal s n own r
 
 module _ (s : List ℕ) (bytes : (k : ℕ) → getD s k 0 < 256) where
   abbrev word-at : ℕ → ℕ
@@ -68,21 +65,33 @@ module _ (s : List ℕ) (bytes : (k : ℕ) → getD s k 0 < 256) where
           (λ j a b. ap₂ (badName n limit (c + j)) (cut-off (j * 2 - 2) (omega arith)) (cut-off (j * 2 - 1) (omega arith)) ∙ none-good n limit (c + j) (omega arith))
           ∙ some-agree m (of-word cut c) (λ j. bad (c + j)) (λ j a b. named cut c j a (kept (j * 2 - 2) (omega arith)) (kept (j * 2 - 1) (omega arith)))
 
-    first-word : some 4 (of-word (bitAnd (word-at at) (2 ^ (16 * min n 4) - 1)) 0) ≡ some (min n 4) bad
-    first-word =
-        cut-word 0 (min n 4) at (omega arith) (omega arith)
-        ∙ some-agree (min n 4) (λ j. bad (0 + j)) bad (λ j a b. let e : 0 + j ≡ j = omega arith in ap bad e)
+    -- the test of a word, its columns in another
+    abbrev pub tested : ℕ → ℕ → Bool
+    tested w columns = some 4 (λ j. badName n limit (lane 8 columns (j * 2 - 2)) (lane 8 w (j * 2 - 2)) (lane 8 w (j * 2 - 1)))
 
-    pub short-row : n ≤ 4 → some 4 (of-word (bitAnd (word-at at) (2 ^ (16 * min n 4) - 1)) 0) ≡ some n bad
-    short-row l = let e : min n 4 ≡ n = omega arith in first-word ∙ ap (λ k. some k bad) e
+    word-test : (c m : ℕ) {place columns w mask : ℕ} → m ≤ 4 → c ≤ 123 → place ≡ at + c * 2 → columns ≡ columnsFrom c → w ≡ word-at place → mask ≡ 2 ^ (16 * m) - 1
+        → tested (bitAnd w mask) columns ≡ some m (λ j. bad (c + j))
+    word-test c m {place} a b p e d f =
+        ap₂ tested (ap₂ bitAnd d f) e
+        ∙ some-agree 4 _ (of-word (bitAnd (word-at place) (2 ^ (16 * m) - 1)) c) (λ j k l.
+        let w = bitAnd (word-at place) (2 ^ (16 * m) - 1) in ap (λ x. badName n limit x (lane 8 w (j * 2 - 2)) (lane 8 w (j * 2 - 1))) (column-is c b j k l))
+        ∙ cut-word c m place a p
 
-    pub long-row : 4 < n → n ≤ 8
-        → (some 4 (of-word (bitAnd (word-at (at + 8)) (2 ^ (16 * min (n - 4) 4) - 1)) 4) || some 4 (of-word (bitAnd (word-at at) (2 ^ (16 * min n 4) - 1)) 0)) ≡ some n bad
-    long-row a b =
-        let e : min n 4 ≡ 4 = omega arith in
-        let i : min (n - 4) 4 ≡ n - 4 = omega arith in
-        let k : 4 + (n - 4) ≡ n = omega arith in
-        ap₂ _||_
-        (cut-word 4 (min (n - 4) 4) (at + 8) (omega arith) (omega arith) ∙ ap (λ m. some m (λ j. bad (4 + j))) i)
-        (first-word ∙ ap (λ m. some m bad) e)
-        ∙ some-split 4 (n - 4) bad ∙ ap (λ m. some m bad) k
+    -- the eight names behind column c, as far as some are left, in two words
+    module _ (c left : ℕ) {columns w mask : ℕ} (c-to : c ≤ 119) (columns-is : columns ≡ columnsFrom c) (w-is : w ≡ word-at (at + c + c)) (mask-is : mask ≡ 2 ^ (16 * min left 4) - 1) where
+      first-word : (m : ℕ) → min left 4 ≡ m → tested (bitAnd w mask) columns ≡ some m (λ j. bad (c + j))
+      first-word m e = word-test c m (omega arith) (omega arith) (omega arith) columns-is w-is (mask-is ∙ ap (λ k. 2 ^ (16 * k) - 1) e)
+
+      pub short-row : left ≤ 4 → tested (bitAnd w mask) columns ≡ some (min left 8) (λ j. bad (c + j))
+      short-row l = first-word (min left 8) (omega arith)
+
+      pub long-row : {v cut : ℕ} → 4 < left → v ≡ word-at (at + c + c + 8) → cut ≡ 2 ^ (16 * min (left - 4) 4) - 1
+          → (tested (bitAnd v cut) (columns + 0x0004000400040004) || tested (bitAnd w mask) columns) ≡ some (min left 8) (λ j. bad (c + j))
+      long-row l d f =
+          let m = min (left - 4) 4 in
+          let k : 4 + m ≡ min left 8 = omega arith in
+          let behind = word-test (c + 4) m (omega arith) (omega arith) (omega arith) (ap (λ x. x + 0x0004000400040004) columns-is ∙ columns-on c 4) d f in
+          ap₂ _||_
+          (behind ∙ some-agree m (λ j. bad (c + 4 + j)) (λ j. bad (c + (4 + j))) (λ j p q. let e : c + 4 + j ≡ c + (4 + j) = omega arith in ap bad e))
+          (first-word 4 (omega arith))
+          ∙ some-split 4 m (λ j. bad (c + j)) ∙ ap (λ i. some i (λ j. bad (c + j))) k

@@ -8,18 +8,23 @@ use native.Mathlib.Nat.{mul-le-mul}
 use borrow.Author.Tests.{leb-true, eq-eqb, ne-eqb}
 use lib.Dec.{leb}
 use lib.ListN.{length, getD}
-use Rattle.image.specs.Layout.{largest, longest, lengthOf}
+use Rattle.image.specs.Layout.{largest, longest, lengthOf, orderWidth}
 use Rattle.image.specs.Frame.{Sized, Framed}
 use Rattle.image.specs.Check.{badCount, badLength, badStall, badYields, badNames, badMarks, checkBody, checked, numberOf}
 use Rattle.image.specs.declared.Checked.{Checked}
 use Rattle.image.specs.declared.Checked.the-variants.{Good, Refused}
-use Rattle.image.proofs.OrderEntry.{order-wide, order-most, length-is}
+use Rattle.image.proofs.OrderEntry.{order-wide, orders-short, length-is}
 
 -- within which bounds the length of an image lies
 pub length-range : (n : ℕ) → 2 ≤ n → n ≤ largest → (18 ≤ lengthOf n) × (lengthOf n ≤ longest)
 length-range n a b =
     let e = length-is n a b in
-    (omega (arith, mul-le-mul a a, mul-le-mul a (order-wide n)), omega (arith, mul-le-mul b b, mul-le-mul b (order-most n b), length-is largest (omega arith) (omega arith)))
+    (omega (arith, mul-le-mul a a, mul-le-mul a (order-wide n)), omega (arith, mul-le-mul b b, orders-short n))
+
+-- the largest parlour has the longest
+pub length-longest : lengthOf largest ≡ longest
+unfolding orderWidth
+length-longest = refl
 
 -- a range test that did not fail
 pub in-range : (a b x : ℕ) → not (leb a x && leb x b) ≡ false → (a ≤ x) × (x ≤ b)

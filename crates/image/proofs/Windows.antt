@@ -1,5 +1,5 @@
 -- A search over 1 to n by windows of k: where n is at most k, in one that has nothing to find behind n; else in the first k and those behind, or
--- in the last k and the first k.
+-- in the last k and the first m.
 use Prim.Native.Nat.{ℕ, zero, suc, _+_, _-_, _≤_, _<_}
 use mathlib.Core.Path.{_≡_, refl, sym, ap, ap₂, _∙_}
 use mathlib.Core.Bool.{Bool, true, false, _||_, or-assoc, or-true, true≢false}
@@ -44,19 +44,19 @@ some-split k (suc m) f = or-assoc (f (k + suc m)) (some m (λ j. f (k + j))) (so
     next : (f (k + suc m) || some (k + m) f) ≡ some (k + suc m) f
     next = let e : k + suc m - 1 ≡ k + m = omega arith in sym (some-suc f (k + suc m) (omega arith) ∙ ap (λ n. f (k + suc m) || some n f) e)
 
--- the last k, and the first k
-pub two-windows : (n k : ℕ) (f : ℕ → Bool) → k ≤ n → n ≤ k + k → (some k (λ j. f (n - k + j)) || some k f) ≡ some n f
-two-windows n k f a b = go (some n f) refl (some-found n f)
+-- the last k and the first m, with none between them
+pub two-windows : (n k m : ℕ) (f : ℕ → Bool) → k ≤ n → m ≤ n → n ≤ m + k → (some k (λ j. f (n - k + j)) || some m f) ≡ some n f
+two-windows n k m f a b c = go (some n f) refl (some-found n f)
   where
-    go : (t : Bool) → some n f ≡ t → Found n f t → (some k (λ j. f (n - k + j)) || some k f) ≡ some n f
-    go t i (at s p q e) = elim (decLe s k) [
-      | yes l ↦ ap (λ y. some k (λ j. f (n - k + j)) || y) (some-true k f s p l e) ∙ or-true (some k (λ j. f (n - k + j))) ∙ sym i
+    go : (t : Bool) → some n f ≡ t → Found n f t → (some k (λ j. f (n - k + j)) || some m f) ≡ some n f
+    go t i (at s p q e) = elim (decLe s m) [
+      | yes l ↦ ap (λ y. some k (λ j. f (n - k + j)) || y) (some-true m f s p l e) ∙ or-true (some k (λ j. f (n - k + j))) ∙ sym i
       | no l ↦
           let d : n - k + (s + k - n) ≡ s = omega arith in
-          ap (λ x. x || some k f) (some-true k (λ j. f (n - k + j)) (s + k - n) (omega arith) (omega arith) (ap f d ∙ e)) ∙ sym i
+          ap (λ x. x || some m f) (some-true k (λ j. f (n - k + j)) (s + k - n) (omega arith) (omega arith) (ap f d ∙ e)) ∙ sym i
     ]
     go t i (nowhere g) =
-        ap₂ _||_ (some-false k (λ j. f (n - k + j)) (λ s p q. g (n - k + s) (omega arith) (omega arith))) (some-false k f (λ s p q. g s p (omega arith))) ∙ sym i
+        ap₂ _||_ (some-false k (λ j. f (n - k + j)) (λ s p q. g (n - k + s) (omega arith) (omega arith))) (some-false m f (λ s p q. g s p (omega arith))) ∙ sym i
 
 -- the other way round
 pub some-reversed : (k : ℕ) (f : ℕ → Bool) → some k (λ j. f (k + 1 - j)) ≡ some k f

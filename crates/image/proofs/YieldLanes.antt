@@ -10,11 +10,11 @@ use lib.Bits.{bitAnd, bitOr, and-mask, and-le-r}
 use lib.Dec.{eqb, leb}
 use lib.ListN.{getD}
 use Rattle.image.specs.Stalls.{some}
-use Rattle.image.specs.Lanes.{lanes, lane}
+use Rattle.image.specs.Lanes.{lanes, lane, fours}
 use Rattle.image.specs.Layout.{word, isYield, noYield}
 use Rattle.image.proofs.Search.{some-agree}
 use Rattle.image.proofs.Bits.{has-and, has-or, has-top, bit-left}
-use Rattle.image.proofs.Windows.{some-reversed, one-window, two-windows}
+use Rattle.image.proofs.Windows.{some-reversed, one-window, some-split, two-windows}
 use Rattle.image.proofs.Lanes.{same-lane, same-lt, lane-of, lane-lt, lane-and, lane-or, lane-add, sum-lt, lane-differ, lane-within, lane-behind}
 use Rattle.image.proofs.YieldRange.{yield-in}
 
@@ -161,15 +161,26 @@ module _ (s : List ℕ) (bytes : (k : ℕ) → getD s k 0 < 256) (at : ℕ) wher
       ∙ sym (some-reversed m (λ j. bad (word s (at + 8 - j * 2))))
       ∙ some-agree m _ _ (λ j a b. let e : at + 8 - (m + 1 - j) * 2 ≡ at + 8 - m * 2 + (j - 1) * 2 = omega arith in ap (λ k. bad (word s k)) e)
 
--- the first four and the last four
-windows-test : (s : List ℕ) (at n : ℕ) → 4 ≤ n → n ≤ 8 → (bad-from s at 4 || bad-from s (at + (n - 4) * 2) 4) ≡ bad-from s at n
-windows-test s at n a b =
-    or-comm (bad-from s at 4) (bad-from s (at + (n - 4) * 2) 4)
-    ∙ ap (λ t. t || bad-from s at 4)
-    (some-agree 4 _ _ (λ j c d. let e : at + (n - 4) * 2 + (j - 1) * 2 ≡ at + (n - 4 + j - 1) * 2 = omega arith in ap (λ k. bad (word s k)) e))
-    ∙ two-windows n 4 (λ j. bad (word s (at + (j - 1) * 2))) a b
+-- four more behind those from a place on
+pub fours-next : (s : List ℕ) → ((k : ℕ) → getD s k 0 < 256) → (at seen place : ℕ) {w : ℕ} {here found : Bool} → place ≡ at + seen * 2 → w ≡ four-from s place
+    → here ≡ bad-in w 4 → found ≡ bad-from s at seen → (here || found) ≡ bad-from s at (seen + 4)
+fours-next s bytes at seen place p d i j =
+    let e : place + 8 - 8 ≡ at + seen * 2 = omega arith in
+    ap₂ _||_
+    (i ∙ ap (λ w. bad-in w 4) d ∙ from-test s bytes place 4 (omega arith) ∙ ap (λ k. bad-from s k 4) e
+    ∙ some-agree 4 _ (λ j. bad (word s (at + (seen + j - 1) * 2))) (λ j a b. let e : at + seen * 2 + (j - 1) * 2 ≡ at + (seen + j - 1) * 2 = omega arith in ap (λ k. bad (word s k)) e))
+    j
+    ∙ some-split seen 4 (λ j. bad (word s (at + (j - 1) * 2)))
 
--- of n that end at a place, the last four, or all where there are fewer, and then the first four
+-- those from a place on that end at another: the last four, and a first part that leaves none between
+windows-test : (s : List ℕ) (at n m : ℕ) → 4 ≤ n → m ≤ n → n ≤ m + 4 → (bad-from s at m || bad-from s (at + (n - 4) * 2) 4) ≡ bad-from s at n
+windows-test s at n m a b c =
+    or-comm (bad-from s at m) (bad-from s (at + (n - 4) * 2) 4)
+    ∙ ap (λ t. t || bad-from s at m)
+    (some-agree 4 _ _ (λ j c d. let e : at + (n - 4) * 2 + (j - 1) * 2 ≡ at + (n - 4 + j - 1) * 2 = omega arith in ap (λ k. bad (word s k)) e))
+    ∙ two-windows n 4 m (λ j. bad (word s (at + (j - 1) * 2))) a b c
+
+-- of n that end at a place, the last four, or all where there are fewer, and then those from the first on
 module _ (s : List ℕ) (bytes : (k : ℕ) → getD s k 0 < 256) (n end : ℕ) (end-from : 8 ≤ end) where
   pub last-found : {w mask : ℕ} {last : Bool} (m : ℕ) → min n 4 ≡ m → w ≡ four-from s (end - 8) → mask ≡ 2 ^ (16 * min n 4) - 1
       → last ≡ bad-in (bitAnd w mask) 4 → last ≡ bad-from s (end - m * 2) m
@@ -180,11 +191,9 @@ module _ (s : List ℕ) (bytes : (k : ℕ) → getD s k 0 < 256) (n end : ℕ) (
       ∙ from-test s bytes (end - 8) m (omega arith)
       ∙ (let p : end - 8 + 8 - m * 2 ≡ end - m * 2 = omega arith in ap (λ k. bad-from s k m) p)
 
-  pub both-found : {w : ℕ} {first last : Bool} → 4 < n → n ≤ 8 → n * 2 ≤ end → w ≡ four-from s (end - n - n) → first ≡ bad-in w 4
-      → last ≡ bad-from s (end - 8) 4 → (first || last) ≡ bad-from s (end - n * 2) n
-  both-found a b l d i j =
+  pub both-found : {first last : Bool} → 4 < n → n * 2 ≤ end → first ≡ bad-from s (end - n - n) (fours (n - 4)) → last ≡ bad-from s (end - 8) 4 → (first || last) ≡ bad-from s (end - n * 2) n
+  both-found a l i j =
       ap₂ _||_
-      (i ∙ ap (λ w. bad-in w 4) d ∙ from-test s bytes (end - n - n) 4 (omega arith)
-      ∙ (let p : end - n - n + 8 - 8 ≡ end - n * 2 = omega arith in ap (λ k. bad-from s k 4) p))
+      (i ∙ (let p : end - n - n ≡ end - n * 2 = omega arith in ap (λ k. bad-from s k (fours (n - 4))) p))
       (j ∙ (let p : end - 8 ≡ end - n * 2 + (n - 4) * 2 = omega arith in ap (λ k. bad-from s k 4) p))
-      ∙ windows-test s (end - n * 2) n (omega arith) b
+      ∙ windows-test s (end - n * 2) n (fours (n - 4)) (omega arith) (omega arith) (omega arith)

@@ -9,7 +9,7 @@ use Rattle.image.specs.Layout.{largest, isCount, isYield, labelLimit, no
 use Rattle.image.specs.declared.Checked.{Checked}
 use Rattle.image.specs.declared.Checked.the-variants.{Good, Refused}
 
--- 1: "image empty, or N not 2 to 8"
+-- 1: "image empty, or N not" 2 to 16, by request 2026-09: "Check 1 moves to 16"
 unfoldable pub badCount : List ℕ → Bool
 badCount s = eqb (length s) 0 || not (isCount (getD s 0 0))
 

@@ -1,9 +1,9 @@
 -- A table as what it says, and the image of it.
-use Prim.Native.Nat.{ℕ, _/_, _%_}
+use Prim.Native.Nat.{ℕ, zero, suc, _/_, _%_}
 use mathlib.Core.Bool.{Bool, false}
 use mathlib.Core.List.{List, [], _∷_, _++_}
 use Rattle.image.specs.Stalls.{each, bits}
-use Rattle.image.specs.Layout.{noYield, currentAt, yieldAt, nameAt, markAt}
+use Rattle.image.specs.Layout.{noYield, orderWidth, currentAt, yieldAt, nameAt, markAt}
 use Rattle.image.specs.declared.Name.{Name}
 use Rattle.image.specs.declared.Name.the-variants.{Never, With}
 
@@ -27,9 +27,15 @@ nameBytes (With m) = m .partner ∷ m .label ∷ []
 abbrev pub wordBytes : ℕ → List ℕ
 wordBytes x = x / 256 ∷ x % 256 ∷ []
 
+-- a number as so many bytes, high first; what the others leave is the first
+unfoldable pub numberBytes : ℕ → ℕ → List ℕ
+numberBytes zero x = []
+numberBytes (suc zero) x = x ∷ []
+numberBytes (suc (suc width)) x = numberBytes (suc width) (x / 256) ++ (x % 256 ∷ [])
+
 -- an order entry of n stalls as bytes
 unfoldable pub orderBytes : ℕ → ℕ → List ℕ
-orderBytes n x = x ∷ []
+orderBytes n x = numberBytes (orderWidth n) x
 
 -- the image of a table of n stalls, of the head at stall own
 unfoldable pub encode : ℕ → ℕ → Table → List ℕ

@@ -13,6 +13,10 @@ lanes width (suc k) f = lanes width k (λ i. f (suc i)) * 2 ^ width + f 0
 unfoldable pub lane : ℕ → ℕ → ℕ → ℕ
 lane width x i = x / 2 ^ (width * i) % 2 ^ width
 
+-- a number, or the next one that four divides
+abbrev pub fours : ℕ → ℕ
+fours m = (m + 3) / 4 * 4
+
 -- four pairs of bytes in a word, such as four names
 unfoldable pub pairs : (ℕ → ℕ) → (ℕ → ℕ) → ℕ
 pairs f g = lanes 8 8 (λ i. cond (eqb (i % 2) 0) (f (i / 2)) (g (i / 2)))

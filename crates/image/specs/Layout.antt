@@ -1,7 +1,8 @@
 -- The byte image of a table.
 -- Document 01: "Byte image, unsigned bytes: N; own stall; current yield in two bytes, high first; N rows of N names, each a partner byte (0 for none) and a
 -- label byte (0 for none); N yields of two bytes; N order bytes, byte r having the bit of value 2 to the power s−1 for mark (r, s)."
-use Prim.Native.Nat.{ℕ, _+_, _-_, _*_}
+-- Request 2026-09: "From 9 up, an order byte becomes two bytes, high first".
+use Prim.Native.Nat.{ℕ, zero, suc, _+_, _-_, _*_}
 use mathlib.Core.Bool.{Bool, _&&_, _||_, not, cond}
 use mathlib.Core.List.{List}
 use lib.Dec.{leb, eqb}
@@ -12,9 +13,9 @@ use Rattle.image.specs.declared.Name.the-variants.{Never, With}
 
 -- the most heads that a parlour has
 abbrev pub largest : ℕ
-largest = 8
+largest = 16
 
--- "N from 2 to 8"
+-- Request 2026-09: "N may be 2 to 16."
 abbrev pub isCount : ℕ → Bool
 isCount n = leb 2 n && leb n largest
 
@@ -34,21 +35,26 @@ isYield x = leb x yieldLimit || eqb x noYield
 unfoldable pub labelLimit : ℕ → ℕ
 labelLimit n = 4 * n - 2
 
--- "Length 2 × N × N + 3 × N + 4", for 2 to 8 heads; 0 for any other number
+-- the bytes of an order entry in an image of n stalls, one for eight stalls; proofs/OrderEntry.antt has the laws of this and of what such an entry says
+unfoldable pub orderWidth : ℕ → ℕ
+orderWidth n = cond (leb n 8) 1 2
+
+-- "Length 2 × N × N + 3 × N + 4", and from 9 up "2 × N × N + 4 × N + 4": two bytes a yield, and those of an order entry; 0 for a number that is that of no parlour
 abbrev pub lengthOf : ℕ → ℕ
-lengthOf n = cond (isCount n) (2 * n * n + 3 * n + 4) 0
+lengthOf n = cond (isCount n) (2 * n * n + (2 + orderWidth n) * n + 4) 0
 
 -- two bytes as a number, high first
 abbrev pub word : List ℕ → ℕ → ℕ
 word s at = getD s at 0 * 256 + getD s (at + 1) 0
 
--- the bytes of an order entry in an image of n stalls; proofs/OrderEntry.antt has the laws of this and of what such an entry says
-unfoldable pub orderWidth : ℕ → ℕ
-orderWidth n = 1
+-- so many bytes as a number, high first
+unfoldable pub numberAt : List ℕ → ℕ → ℕ → ℕ
+numberAt s at zero = 0
+numberAt s at (suc width) = numberAt s at width * 256 + getD s (at + width) 0
 
 -- the number of the order entry that starts at a place: the set of stalls that its stall is marked to
 unfoldable pub orderFrom : List ℕ → ℕ → ℕ → ℕ
-orderFrom s n at = getD s at 0
+orderFrom s n at = numberAt s at (orderWidth n)
 
 -- where the yields and the order entries start, and where the image ends
 abbrev pub yieldsPlace : ℕ → ℕ
@@ -67,12 +73,12 @@ ordersFrom length n = length - n * orderWidth n
 abbrev pub yieldsFrom : ℕ → ℕ → ℕ
 yieldsFrom length n = ordersFrom length n - n * 2
 
--- the bytes of a row of the largest parlour, and of its image
+-- the bytes of a row of the largest parlour, and of its image: "which is 580 for 16"
 abbrev pub longestRow : ℕ
 longestRow = largest * 2
 
 abbrev pub longest : ℕ
-longest = lengthOf largest
+longest = 580
 
 -- where a row, a name in it, a yield and an order entry start
 abbrev pub rowPlace : ℕ → ℕ → ℕ

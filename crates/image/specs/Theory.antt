@@ -4,7 +4,7 @@ use mathlib.Core.Path.{_≡_}
 use mathlib.Core.List.{List, _∷_, _++_}
 use lib.ListN.{getD, replicate}
 use Rattle.image.specs.Stalls.{each}
-use Rattle.image.specs.Layout.{largest, noYield, orderWidth, labelAt}
+use Rattle.image.specs.Layout.{largest, longest, lengthOf, noYield, orderWidth, labelAt}
 use Rattle.image.specs.Fresh.{freshImage}
 use Rattle.image.specs.Check.{checked}
 use Rattle.image.specs.Encode.{Table, wordBytes, encode, tableOf}
@@ -25,5 +25,8 @@ pub record Theory : Type 0 where
   pub accepted-made : (s : List ℕ) (n own : ℕ) → Passes s n own → Made n own (tableOf s n)
   pub made-accepted : (n own : ℕ) (t : Table) → 2 ≤ n → n ≤ largest → 1 ≤ own → own ≤ n → Made n own t → Passes (encode n own t) n own
   pub accepted-encode : (s : List ℕ) (n own : ℕ) → Passes s n own → ((k : ℕ) → getD s k 0 < 256) → encode n own (tableOf s n) ≡ s
-  -- Request 2026-02: "Our link people need the label in five bits."
-  pub label-bits : (s : List ℕ) (n own : ℕ) → Passes s n own → (r c : ℕ) → 1 ≤ r → r ≤ n → 1 ≤ c → c ≤ n → labelAt s n r c < 2 ^ 5
+  -- Request 2026-02: "Our link people need the label in five bits." That is enough for 2 to 8 heads, whose labels end at 30; those of 16 end at 62.
+  pub label-bits : (s : List ℕ) (n own : ℕ) → Passes s n own → (r c : ℕ) → 1 ≤ r → r ≤ n → 1 ≤ c → c ≤ n → (labelAt s n r c < 2 ^ 6) × (n ≤ 8 → labelAt s n r c < 2 ^ 5)
+  -- Request 2026-09: "which is 580 for 16", and no image is longer.
+  pub length-most : (n : ℕ) → 2 ≤ n → n ≤ largest → lengthOf n ≤ longest
+  pub length-longest : lengthOf largest ≡ longest

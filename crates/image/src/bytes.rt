@@ -44,7 +44,7 @@ fn if_set(bit: usize, x: usize) -> usize
     if bit == 0 { 0 } else { x }
 }
 
-// Where the row of stall r starts in an image of n stalls, by the three bits of r - 1: with no product, and no loop that could be made one.
+// Where the row of stall r starts in an image of n stalls, by the four bits of r - 1: with no product, and no loop that could be made one.
 pub(crate) fn row_start(n: usize, r: usize) -> usize
     requires { ⌜ (n ≤ largest) × (1 ≤ r) × (r ≤ largest) ⌝ }
     ensures { λ p. ⌜ p ≡ rowPlace n r ⌝ }
@@ -52,7 +52,12 @@ pub(crate) fn row_start(n: usize, r: usize) -> usize
     let rows = r - 1;
     let one = n + n;
     let two = one + one;
-    4 + if_set(rows & 1, one) + if_set(rows & 2, two) + if_set(rows & 4, two + two)
+    let four = two + two;
+    4
+        + if_set(rows & 1, one)
+        + if_set(rows & 2, two)
+        + if_set(rows & 4, four)
+        + if_set(rows & 8, four + four)
 }
 
 // x less y, 0 where y is larger.

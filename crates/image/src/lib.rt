@@ -15,13 +15,13 @@ mod words;
 pub mod yields;
 
 // The most heads that a parlour has, the bytes of a row of names of so many, and of their image.
-pub const LARGEST: u8 = 8;
+pub const LARGEST: u8 = 16;
 
 pub const STALLS: usize = LARGEST as usize;
 
 pub const ROW: usize = 2 * STALLS;
 
-pub const LONGEST: usize = 4 + 2 * STALLS * STALLS + 3 * STALLS;
+pub const LONGEST: usize = 4 + 2 * STALLS * STALLS + 4 * STALLS;
 
 // The meeting with a partner that has a label.
 pub struct Meet {
@@ -57,8 +57,26 @@ pub struct Head {
     pub image: [u8; LONGEST],
 }
 
-// Image lengths by the number of stalls; in bytes, since the table is laid out anew at each look.
-const LENGTHS: [u8; STALLS + 1] = [0, 0, 18, 31, 48, 69, 94, 123, LONGEST as u8];
+// Image lengths by the number of stalls; in two bytes each, since the table is laid out anew at each look.
+const LENGTHS: [u16; STALLS + 1] = [
+    0,
+    0,
+    18,
+    31,
+    48,
+    69,
+    94,
+    123,
+    156,
+    202,
+    244,
+    290,
+    340,
+    394,
+    452,
+    514,
+    LONGEST as u16,
+];
 
 impl Head {
     pub const YIELD_LIMIT: u16 = 999;
@@ -90,12 +108,18 @@ impl Head {
     }
 }
 
-// The length of an image of n stalls, 0 where n is not 2 to 8.
+fn widen_length(x: u16) -> usize
+    ensures { λ r. ⌜ r ≡ x ⌝ }
+{
+    x as usize
+}
+
+// The length of an image of n stalls, 0 where n is that of no parlour.
 pub fn length_of(n: usize) -> usize
     ensures { λ r. ⌜ r ≡ lengthOf n ⌝ }
 {
     if n <= STALLS {
-        bytes::wide(LENGTHS[n])
+        widen_length(LENGTHS[n])
     } else {
         0
     }

@@ -1,23 +1,17 @@
-// The order marks of an image: check 6. Sets of stalls are numbers; in a word, a byte for each stall.
+// The order marks of an image: check 6. Sets of stalls are numbers.
 ghost use mathlib.Core.Path.{_≡_};
-ghost use Prim.Native.Nat.{suc, _+_, _-_, _*_, _^_, _<_, _≤_};
-ghost use mathlib.Core.Bool.{cond, not};
+ghost use Prim.Native.Nat.{_+_, _-_, _*_, _^_, _<_, _≤_};
+ghost use mathlib.Core.Bool.{cond, not, _||_};
+ghost use lib.Bits.{bitAnd};
 ghost use lib.Dec.{eqb};
 ghost use lib.ListN.{length, getD};
-ghost use Rattle.image.specs.Stalls.{bits, bitOf, has};
-ghost use Rattle.image.specs.Lanes.{lanes, lane};
+ghost use Rattle.image.specs.Stalls.{bits, bitOf};
 ghost use Rattle.image.specs.Layout.{largest, heardAt};
 ghost use Rattle.image.specs.Frame.{Framed};
 ghost use Rattle.image.specs.Check.{badMarks};
-use crate::orders::order_bytes;
-use crate::words::EIGHTHS;
-use crate::words::SEVENS;
-use crate::words::eight_times;
-
-// A bit in each byte of a word: the first bit; and in byte r the bit of stall r.
-const ONES: u64 = 0x0101010101010101;
-
-const DIAGONAL: u64 = 0x8040201008040201;
+use crate::orders::order_at;
+use crate::orders::order_width;
+use crate::orders::orders_place;
 
 // x, or nothing.
 pub fn pick(b: bool, x: u64) -> u64
@@ -71,11 +65,17 @@ pub(crate) fn has_all(set: u64, n: usize) -> bool
     set == (1u64 << n) - 1
 }
 
-// In each byte, all bits where the set has its stall, and none where it has not.
-fn heard_bytes(sets: u64) -> u64
-    ensures { λ r. ⌜ r ≡ lanes 8 8 (λ i. cond (has (lane 8 sets i) (suc i)) 255 0) ⌝ }
+// Bits where the order entry of a stall is bad, by the stall's bit, that of the own stall, and the set of heard stalls.
+fn bad_order(order: u64, set: u64, one: u64, mine: u64) -> u64
+    ensures { λ r.
+        ⌜ not (eqb r 0)
+        ≡ cond (eqb (bitAnd set one) 0) (not (eqb order 0))
+        (not (eqb (bitAnd order set) order) || (not (eqb (bitAnd order one) one) || not (eqb (bitAnd order mine) mine))) ⌝ }
 {
-    ((((sets & DIAGONAL) + SEVENS) & EIGHTHS) >> 7) * 255
+    if set & one == 0 {
+        return order;
+    }
+    ((order & set) ^ order) | (((order & one) ^ one) | ((order & mine) ^ mine))
 }
 
 // Check 6, by the set of heard stalls: no mark but of a heard stall to a heard one, and of each of these to itself and to the own stall.
@@ -83,12 +83,16 @@ pub(crate) fn bad_marks(image: &[u8], n: usize, own: usize, set: u64) -> bool
     requires { ⌜ Framed (now image) n own × (set ≡ bits n (heardAt (now image) n own)) ⌝ }
     ensures { λ b. ⌜ b ≡ badMarks (now (image .entry)) n own ⌝ }
 {
-    let orders = order_bytes(image, n);
-    let sets = eight_times(set);
-    let heard = heard_bytes(sets);
-    let stalls = heard & DIAGONAL;
-    let owns = heard & (ONES << (own - 1));
-    !((orders & (sets & heard)) == orders)
-        | !((orders & stalls) == stalls)
-        | !((orders & owns) == owns)
+    let mine = 1u64 << (own - 1);
+    let width = order_width(n);
+    let end = image.len();
+    let mut bad = 0u64;
+    let mut one = 1u64;
+    let mut at = orders_place(end, n);
+    while at < end {
+        bad = bad_order(order_at(image, n, at), set, one, mine) | bad;
+        one += one;
+        at += width;
+    }
+    !(bad == 0)
 }

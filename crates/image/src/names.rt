@@ -1,17 +1,19 @@
 // The names of an image: check 5. Names are looked at four at a time, in words.
 ghost use mathlib.Core.Path.{_≡_};
-ghost use Prim.Native.Nat.{suc, _+_, _-_, _*_, _<_, _≤_};
+ghost use Prim.Native.Nat.{min, _+_, _-_, _*_, _<_, _≤_};
 ghost use mathlib.Core.Bool.{not, _&&_, _||_};
 ghost use lib.Dec.{eqb};
 ghost use lib.ListN.{length, getD};
 ghost use Rattle.image.specs.Stalls.{some};
 ghost use Rattle.image.specs.Lanes.{lane, pairs};
-ghost use Rattle.image.specs.Layout.{labelLimit, labelAt, largest, noYield, partnerAt, rowPlace, heardAt, word};
-ghost use Rattle.image.specs.Frame.{Framed};
+ghost use Rattle.image.specs.Columns.{Low, columnsFrom, badAt};
+ghost use Rattle.image.specs.Layout.{labelLimit, largest, noYield, rowPlace, heardAt, word};
+ghost use Rattle.image.specs.Frame.{Sized, Framed};
 ghost use Rattle.image.specs.Check.{badName, badDiagonal, badUnheard, badNames};
 use crate::Head;
 use crate::bytes::word_at;
 use crate::bytes::yields_place;
+use crate::marks::widen;
 use crate::words::EIGHTHS;
 use crate::words::SEVENS;
 use crate::words::eight;
@@ -19,10 +21,14 @@ use crate::words::first_lanes;
 use crate::words::four_times;
 use crate::yields::is_not_milked;
 
-// The eighth bit of the partner bytes of four names, and the columns 1 to 4 at these bytes.
+// The eighth bit of the partner bytes of four names; the columns 1 to 4 at these bytes, and what takes columns to those four and eight behind them.
 const PARTNER_EIGHTHS: u64 = 0x0080008000800080;
 
 const FIRST_COLUMNS: u64 = 0x0004000300020001;
+
+const FOUR_MORE: u64 = 0x0004000400040004;
+
+const EIGHT_MORE: u64 = 0x0008000800080008;
 
 // What takes the partner bytes of four names to 128 and above where they are over n, and the label bytes where they are over the limit.
 fn limits_of(n: usize) -> u64
@@ -32,40 +38,42 @@ fn limits_of(n: usize) -> u64
     SEVENS - four_times((Head::label_limit(n as u8) * 256 + n) as u64)
 }
 
-// The columns behind column c, at the partner bytes of four names.
-fn columns_from(c: usize) -> u64
-    requires { ⌜ c ≤ largest ⌝ }
-    ensures { λ r. ⌜ r ≡ pairs (λ j. c + suc j) (λ j. 0) ⌝ }
-{
-    FIRST_COLUMNS + four_times(c as u64)
-}
-
-// Bits where some of four names in a word is bad by itself, a partner byte and a label byte each; the first stands behind column c. A byte is
-// over its limit, a partner is its own column, or a label has no partner: sums and differences of bytes below 128 carry into no other.
-fn bad_four(w: u64, n: usize, c: usize) -> u64
-    requires { ⌜ (n ≤ largest) × (c ≤ largest) ⌝ }
-    ensures { λ r. ⌜ not (eqb r 0) ≡ some 4 (λ j. badName n (labelLimit n) (c + j) (lane 8 w (j * 2 - 2)) (lane 8 w (j * 2 - 1))) ⌝ }
+// Bits where some of four names in a word is bad by itself, a partner byte and a label byte each, with the columns of the names at the partner
+// bytes. A byte is over its limit, a partner is its own column, or a label has no partner: sums and differences of bytes below 128 carry into no other.
+fn bad_four(w: u64, n: usize, columns: u64) -> u64
+    requires { ⌜ (n ≤ largest) × Low columns ⌝ }
+    ensures { λ r.
+        ⌜ not (eqb r 0)
+        ≡ some 4 (λ j. badName n (labelLimit n) (lane 8 columns (j * 2 - 2)) (lane 8 w (j * 2 - 2)) (lane 8 w (j * 2 - 1))) ⌝ }
 {
     let low = w & SEVENS;
     let over = w | (low + limits_of(n));
-    let own = EIGHTHS - (low ^ columns_from(c));
+    let own = EIGHTHS - (low ^ columns);
     let bare = ((low + SEVENS) >> 8) & (EIGHTHS - low);
     (over & EIGHTHS) | ((own | bare) & PARTNER_EIGHTHS)
 }
 
-// Bits where some name of the row that starts at a place is bad by itself; behind the row stand at least the yields and the marks.
-fn bad_in_row(image: &[u8], n: usize, at: usize) -> u64
-    requires { ⌜ (2 ≤ n) × (n ≤ largest) × (at + n * 5 ≤ length (now image)) ⌝ }
+// Bits where some of the eight names behind column c, of the row that starts at a place, is bad by itself; behind the row stand at least the
+// yields and the marks.
+fn bad_in_row(image: &[u8], n: usize, at: usize, c: usize, columns: u64) -> u64
+    requires { ⌜ (2 ≤ n) × (n ≤ largest) × (c < n) × (at + n * 5 ≤ length (now image)) × (columns ≡ columnsFrom c) ⌝ }
     ensures { λ r.
         ⌜ not (eqb r 0)
-        ≡ some n
-        (λ c. badName n (labelLimit n) c (getD (now (image .entry)) (at + (c - 1) * 2) 0) (getD (now (image .entry)) (at + (c - 1) * 2 + 1) 0)) ⌝ }
+        ≡ some (min (n - c) 8)
+        (λ j. badName n (labelLimit n) (c + j) (getD (now (image .entry)) (at + (c + j - 1) * 2) 0) (getD (now (image .entry)) (at + (c + j - 1) * 2 + 1) 0)) ⌝ }
 {
-    let first = bad_four(eight(image, at) & first_lanes(n), n, 0);
-    if n <= 4 {
+    let place = at + c + c;
+    let left = n - c;
+    let first = bad_four(eight(image, place) & first_lanes(left), n, columns);
+    if left <= 4 {
         return first;
     }
-    bad_four(eight(image, at + 8) & first_lanes(n - 4), n, 4) | first
+    bad_four(
+        eight(image, place + 8) & first_lanes(left - 4),
+        n,
+        columns + FOUR_MORE,
+    )
+        | first
 }
 
 // The row that starts at a place has a name.
@@ -84,18 +92,18 @@ fn some_in_row(image: &[u8], n: usize, at: usize) -> bool
     found
 }
 
-// The two bytes at a place as a word.
+// The two bytes at a place as a word, the first the lowest.
 fn two_at(image: &[u8], at: usize) -> u64
     requires { ⌜ at + 1 < length (now image) ⌝ }
-    ensures { λ r. ⌜ r ≡ word (now (image .entry)) at ⌝ }
+    ensures { λ r. ⌜ r ≡ getD (now (image .entry)) at 0 + getD (now (image .entry)) (at + 1) 0 * 256 ⌝ }
 {
-    word_at(image, at) as u64
+    widen(image[at]) + widen(image[at + 1]) * 256
 }
 
-// Some row has a name that is bad by itself, or not the own row's name of its stall.
-fn bad_rows(image: &[u8], n: usize, own: usize, ownrow: usize) -> bool
+// Bits where some row has, in its first eight columns, a name that is bad by itself, or not the own row's name of its stall.
+fn bad_first(image: &[u8], n: usize, own: usize, ownrow: usize) -> u64
     requires { ⌜ Framed (now image) n own × (ownrow ≡ rowPlace n own) ⌝ }
-    ensures { λ b. ⌜ b ≡ some n (λ r. some n (λ c. badName n (labelLimit n) c (partnerAt (now (image .entry)) n r c) (labelAt (now (image .entry)) n r c)) || badDiagonal (now (image .entry)) n own r) ⌝ }
+    ensures { λ b. ⌜ not (eqb b 0) ≡ some n (λ r. some (min n 8) (badAt (now (image .entry)) n r) || badDiagonal (now (image .entry)) n own r) ⌝ }
 {
     let mut bad = 0u64;
     let mut at = 4usize;
@@ -103,11 +111,45 @@ fn bad_rows(image: &[u8], n: usize, own: usize, ownrow: usize) -> bool
     let mut there = ownrow;
     let mut r = 1usize;
     while r <= n {
-        bad = bad_in_row(image, n, at) | (two_at(image, here) ^ two_at(image, there)) | bad;
+        bad = bad_in_row(image, n, at, 0, FIRST_COLUMNS)
+            | (two_at(image, here) ^ two_at(image, there))
+            | bad;
         at += n + n;
         here += n + n + 2;
         there += 2;
         r += 1;
+    }
+    bad
+}
+
+// Bits where some row has, in the eight columns behind column c, a name that is bad by itself.
+fn bad_behind(image: &[u8], n: usize, c: usize, columns: u64) -> u64
+    requires { ⌜ Sized (now image) n × (c < n) × (columns ≡ columnsFrom c) ⌝ }
+    ensures { λ b. ⌜ not (eqb b 0) ≡ some n (λ r. some (min (n - c) 8) (λ j. badAt (now (image .entry)) n r (c + j))) ⌝ }
+{
+    let mut bad = 0u64;
+    let mut at = 4usize;
+    let mut r = 1usize;
+    while r <= n {
+        bad = bad_in_row(image, n, at, c, columns) | bad;
+        at += n + n;
+        r += 1;
+    }
+    bad
+}
+
+// Some row has a name that is bad by itself, or not the own row's name of its stall.
+fn bad_rows(image: &[u8], n: usize, own: usize, ownrow: usize) -> bool
+    requires { ⌜ Framed (now image) n own × (ownrow ≡ rowPlace n own) ⌝ }
+    ensures { λ b. ⌜ b ≡ some n (λ r. some n (badAt (now (image .entry)) n r) || badDiagonal (now (image .entry)) n own r) ⌝ }
+{
+    let mut bad = bad_first(image, n, own, ownrow);
+    let mut columns = FIRST_COLUMNS;
+    let mut c = 8usize;
+    while c < n {
+        columns += EIGHT_MORE;
+        bad = bad_behind(image, n, c, columns) | bad;
+        c += 8;
     }
     !(bad == 0)
 }

@@ -1,4 +1,4 @@
-// Words of 64 bits, in which the check looks at four names, four yields or eight order entries at a time.
+// Words of 64 bits, in which the check looks at four names or four yields at a time.
 ghost use mathlib.Core.Path.{_≡_};
 ghost use Prim.Native.Nat.{min, _+_, _-_, _*_, _^_, _<_, _≤_};
 ghost use lib.ListN.{length, getD};
@@ -65,12 +65,4 @@ pub(crate) fn four_times(x: u64) -> u64
 {
     let two = x | (x << 16);
     two | (two << 32)
-}
-
-// A number in each of eight lanes.
-pub(crate) fn eight_times(x: u64) -> u64
-    requires { ⌜ x < 256 ⌝ }
-    ensures { λ r. ⌜ r ≡ lanes 8 8 (λ i. x) ⌝ }
-{
-    four_times(x | (x << 8))
 }

@@ -6,7 +6,7 @@ ghost use mathlib.Core.List.{_++_};
 ghost use lib.Dec.{eqb};
 ghost use lib.ListN.{length, take, drop};
 ghost use Rattle.image.specs.Stalls.{some, each};
-ghost use Rattle.image.specs.Lanes.{lane};
+ghost use Rattle.image.specs.Lanes.{lane, fours};
 ghost use Rattle.image.specs.Layout.{isYield, largest, longest, noYield, word};
 ghost use Rattle.image.specs.Encode.{wordBytes};
 ghost use Rattle.image.specs.Frame.{Sized};
@@ -51,7 +51,23 @@ fn bad_four(w: u64) -> bool
     !(over == none)
 }
 
-// Some of n numbers that end at a place is none that a yield may be: of the last four, or of the first four where there are more.
+// Some of so many numbers from a place on, and of those behind them to a whole four, is none that a yield may be.
+fn bad_fours(image: &[u8], at: usize, count: usize) -> bool
+    requires { ⌜ (count ≤ largest) × (at + count * 2 + 6 ≤ length (now image)) ⌝ }
+    ensures { λ r. ⌜ r ≡ some (fours count) (λ s. not (isYield (word (now (image .entry)) (at + (s - 1) * 2)))) ⌝ }
+{
+    let mut bad = false;
+    let mut place = at;
+    let mut seen = 0usize;
+    while seen < count {
+        bad = bad_four(four_numbers(image, place)) | bad;
+        place += 8;
+        seen += 4;
+    }
+    bad
+}
+
+// Some of n numbers that end at a place is none that a yield may be: of the last four, or of those before, in fours from the first on.
 fn some_bad_yield(image: &[u8], n: usize, end: usize) -> bool
     requires { ⌜ (2 ≤ n) × (n ≤ largest) × (n * 2 ≤ end) × (8 ≤ end) × (end ≤ length (now image)) ⌝ }
     ensures { λ r. ⌜ r ≡ some n (λ s. not (isYield (word (now (image .entry)) (end - n * 2 + (s - 1) * 2)))) ⌝ }
@@ -60,7 +76,7 @@ fn some_bad_yield(image: &[u8], n: usize, end: usize) -> bool
     if n <= 4 {
         return last;
     }
-    bad_four(four_numbers(image, end - n - n)) | last
+    bad_fours(image, end - n - n, n - 4) | last
 }
 
 // Check 4.

@@ -7,16 +7,16 @@ use borrow.Author.Tests.{le-leb, lt-leb}
 use borrow.Author.Needs.{needs}
 use lib.ListN.{getD}
 use Rattle.image.specs.Stalls.{some}
-use Rattle.image.specs.Layout.{lengthOf, largest}
+use Rattle.image.specs.Layout.{lengthOf, largest, orderWidth}
 use Rattle.image.proofs.Tables.{table-rule}
 use Rattle.image.proofs.length_of.Statement.{statement}
 use Rattle.image.proofs.length_of.Tie as tie
 
 abbrev lengths : List ℕ
-lengths = 0 ∷ 0 ∷ 18 ∷ 31 ∷ 48 ∷ 69 ∷ 94 ∷ 123 ∷ 156 ∷ []
+lengths = 0 ∷ 0 ∷ 18 ∷ 31 ∷ 48 ∷ 69 ∷ 94 ∷ 123 ∷ 156 ∷ 202 ∷ 244 ∷ 290 ∷ 340 ∷ 394 ∷ 452 ∷ 514 ∷ 580 ∷ []
 
 rule : (k : ℕ) → k < suc largest → getD lengths k 0 ≡ lengthOf k
-unfolding some
+unfolding some orderWidth
 rule = table-rule (suc largest) (λ k. getD lengths k 0) lengthOf refl
 
 beyond : (n : ℕ) → largest < n → lengthOf n ≡ 0
@@ -27,6 +27,7 @@ length-of-spec =
     tie.close
     (tie.spec
     (λ c. search needs)
+    (λ c. search needs)
     (λ c κs. tt)
-    (λ c. c .wide .ensures .0 ∙ rule (c .before .before .args .n) (search needs))
+    (λ c. c .widen-length .ensures ∙ rule (c .before .before .args .n) (search needs))
     (λ c. sym (beyond (c .before .args .n) (search needs))))

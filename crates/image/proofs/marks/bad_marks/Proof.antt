@@ -1,90 +1,107 @@
 -- Check 6, by the set of heard stalls.
-use Prim.Native.Nat.{ℕ, suc, _-_, _^_, _≤_, _<_}
+use Prim.Native.Nat.{ℕ, _+_, _-_, _*_, _%_, _^_, _≤_, _<_}
 use mathlib.Core.Path.{_≡_, refl, sym, ap, ap₂, _∙_}
-use mathlib.Core.Bool.{Bool, true, false, _&&_, _||_, not, cond}
+use mathlib.Core.Bool.{Bool, false, _||_, not, cond}
 use mathlib.Core.List.{List}
 use native.Mathlib.Omega.{arith}
+use native.Mathlib.Decide.{decLt, ℕ-discrete}
 use borrow.Author.Needs.{needs}
-use borrow.Author.Tests.{lt-ltb, le-ltb, lt-leb}
-use lib.Bits.{bitAnd, and-zero-l}
-use lib.Dec.{eqb, ltb}
-use lib.ListN.{getD}
-use lib.Pow.{pow-mono}
-use Rattle.image.specs.Stalls.{some, has, bits}
-use Rattle.image.specs.Layout.{largest, orderAt, orderPlace, heardAt}
+use lib.Dec.{eqb}
+use lib.ListN.{length, getD}
+use lib.Pow.{shl-exact}
+use Rattle.image.specs.Stalls.{some, bits}
+use Rattle.image.specs.Layout.{largest, orderAt, orderFrom, orderPlace, orderWidth, ordersPlace, imageLength, heardAt}
 use Rattle.image.specs.Frame.{Framed}
 use Rattle.image.specs.Check.{badOrder, badMarks}
-use Rattle.image.proofs.Search.{some-agree}
-use Rattle.image.proofs.Bits.{has-bits, bits-lt, bit-test}
-use Rattle.image.proofs.StallSets.{has-at}
-use Rattle.image.proofs.Windows.{one-window}
-use Rattle.image.proofs.OrderEntry.{order-bound}
+use Rattle.image.proofs.Search.{Looked, looked-start, looked-next, looked-as, looked-end}
+use Rattle.image.proofs.Places.{orders-from}
+use Rattle.image.proofs.Lanes.{or-test}
+use Rattle.image.proofs.Gather.{Bit, bit-start, bit-next, bit-le}
+use Rattle.image.proofs.OrderEntry.{order-wide, order-within}
 use Rattle.image.proofs.OrderTest.{order-test}
-use Rattle.image.proofs.MarkLanes.{marks-test}
 use Rattle.image.proofs.marks.bad_marks.Statement.{statement}
 use Rattle.image.proofs.marks.bad_marks.Tie as tie
 
-module _ (s : List ℕ) (n own set : ℕ) (framed : Framed s n own) (bytes : (k : ℕ) → getD s k 0 < 256) (set-is : set ≡ bits n (heardAt s n own)) where
-  -- the entry behind i others, nothing behind all
-  abbrev entry : ℕ → ℕ
-  entry i = cond (ltb i n) (orderAt s n (suc i)) 0
+-- the entries before some stall have been looked at, whose entry stands at a place and whose bit is at hand
+record Marks (s : List ℕ) (n own bad one at : ℕ) : Type 0 where
+  stall : ℕ
+  looked : Looked n (orderWidth n) (ordersPlace n) at stall (not (eqb bad 0)) (badOrder s n own)
+  bit : Bit one stall
 
-  entry-lt : (i : ℕ) → entry i < 256
-  entry-lt i = go (ltb i n) (order-bound s n (orderPlace n (suc i)) bytes)
-    where
-      go : (t : Bool) → orderAt s n (suc i) < 2 ^ largest → cond t (orderAt s n (suc i)) 0 < 256
-      go true l = l
-      go false l = omega arith
+-- such a place is before the end of the image exactly as long as a stall is left
+stall-left : (n at stall : ℕ) {long : ℕ} → long ≡ imageLength n → at ≡ ordersPlace n + (stall - 1) * orderWidth n → stall ≤ n + 1 → at < long → stall ≤ n
+stall-left n at stall e p b l = elim (ℕ-discrete (stall - 1) n) [
+  | yes i ↦ absurd (omega (arith, ap (λ k. k * orderWidth n) i))
+  | no i ↦ omega arith
+]
 
-  set-lt : set < 256
-  set-lt = omega (arith, set-is, bits-lt n (heardAt s n own), pow-mono {i = n} {j = largest} (framed .n-to))
+none-left : (n at stall : ℕ) {long : ℕ} → long ≡ imageLength n → at ≡ ordersPlace n + (stall - 1) * orderWidth n → 1 ≤ stall → long ≤ at → n < stall
+none-left n at stall e p a l = elim (decLt n stall) [
+  | yes i ↦ i
+  | no i ↦ absurd (omega (arith, order-within {n = n} {r = stall} a (omega arith), order-wide n))
+]
 
-  abbrev bad : ℕ → Bool
-  bad j = not (eqb (bitAnd (entry (j - 1)) (cond (has set j) set 0)) (entry (j - 1))) || has set j && not (has (entry (j - 1)) j) || has set j && not (has (entry (j - 1)) own)
+abbrev Inv-loop : tie.InvT-loop
+Inv-loop image n own set mine width end bad₀ one₀ at₀ bad one at = Marks image n own bad one at
 
-  -- nothing stands behind n
-  behind : (j : ℕ) → n < j → bad j ≡ false
-  behind j l =
-      let h : has set j ≡ false = ap (λ x. has x j) set-is ∙ has-bits n (heardAt s n own) j (omega arith) ∙ ap (λ t. t && heardAt s n own j) (lt-leb j n l) in
-      let e : entry (j - 1) ≡ 0 = ap (λ t. cond t (orderAt s n (suc (j - 1))) 0) (le-ltb (j - 1) n (omega arith)) in
-      ap₂ (λ x t. not (eqb (bitAnd x (cond t set 0)) x) || t && not (has x j) || t && not (has x own)) e h ∙ ap (λ x. not (eqb x 0) || false || false) (and-zero-l 0)
+abbrev μ-loop : tie.MeasureT-loop
+μ-loop image n own set mine width end bad₀ one₀ at₀ bad one at = end - at
 
-  shuffle : (a h x y : Bool) → (a || h && not x || h && not y) ≡ (a || h && not (x && y))
-  shuffle true h x y = refl
-  shuffle false true true y = refl
-  shuffle false true false y = refl
-  shuffle false false x y = refl
+-- the first entry, and the next one, as the code comes to them
+looked-at : {n width place at s : ℕ} {found : Bool} {f : ℕ → Bool} → at ≡ place → Looked n width place place s found f → Looked n width place at s found f
+looked-at e w = record { from = w .from; to = w .to; stands = e ∙ w .stands; so-far = w .so-far }
 
-  found : (j : ℕ) → 1 ≤ j → j ≤ n → bad j ≡ badOrder s n own j
-  found j a b =
-      let h : has set j ≡ heardAt s n own j = has-at n (heardAt s n own) set-is j a b in
-      let i : suc (j - 1) ≡ j = omega arith in
-      let e : entry (j - 1) ≡ orderAt s n j = ap₂ (λ t k. cond t (orderAt s n k) 0) (lt-ltb (j - 1) n (omega arith)) i in
-      let x = entry (j - 1) in
-      shuffle (not (eqb (bitAnd x (cond (has set j) set 0)) x)) (has set j) (has x j) (has x own)
-      ∙ ap₂ (λ u v. not (eqb (bitAnd x (cond (has set j) set 0)) x) || has set j && not (u && v)) (sym (bit-test x j)) (sym (bit-test x own))
-      ∙ order-test s n own j x (2 ^ (j - 1)) (2 ^ (own - 1)) set (has set j) (entry-lt (j - 1)) e h set-is refl refl
+looked-on : {n width place s step : ℕ} (at : ℕ) {found : Bool} {f : ℕ → Bool} → step ≡ width → Looked n width place (at + width) s found f → Looked n width place (at + step) s found f
+looked-on at e w = record { from = w .from; to = w .to; stands = ap (λ k. at + k) e ∙ w .stands; so-far = w .so-far }
 
-  all-found : some 8 bad ≡ badMarks s n own
-  unfolding badMarks
-  all-found = one-window n 8 bad (framed .n-to) (λ j a b. behind j a) ∙ some-agree n bad (badOrder s n own) found
+marks-end : (s : List ℕ) (n own : ℕ) {found : Bool} → found ≡ some n (badOrder s n own) → found ≡ badMarks s n own
+unfolding badMarks
+marks-end s n own e = e
+
+one-shifted : (k : ℕ) → k < 64 → (1 * 2 ^ k) % 2 ^ 64 ≡ 2 ^ k
+one-shifted k l = shl-exact {a = 1} 1 k 64 (omega arith) (omega arith) ∙ omega arith
 
 pub bad-marks-spec : {M : Type 1} → statement M
 bad-marks-spec =
     tie.close
     (tie.spec
+    Inv-loop
+    μ-loop
+    (λ c. omega (arith, c .before .pre .0 .own-from))
+    (λ c. let p = c .before .pre .0 in omega (arith, p .own-to, p .n-to))
     (λ c κs. search needs)
-    (λ c κs. let a = c .before .before .args in
-    set-lt (a .image .now) (a .n) (a .own) (a .set) (c .before .before .pre .0) (λ k. omega (arith, c .before .shared-slice-known .given k)) (c .before .before .pre .1))
     (λ c κs. search needs)
-    (λ c. search needs)
-    (λ c. search needs)
+    (λ c. let p = c .before .before .before .pre .0 in
+    record { stall = 1; looked = looked-at (orders-from (p .long) refl (c .orders-place .ensures)) (looked-start _); bit = bit-start })
+    (λ c κs. search needs)
+    (λ c κs. search needs)
     (λ c.
-    let a = c .before .before .before .before .args in
-    let p = c .before .before .before .before .pre in
-    let s = a .image .now in
-    let bytes : (k : ℕ) → getD s k 0 < 256 = λ k. omega (arith, c .before .before .before .shared-slice-known .given k) in
-    marks-test (entry s (a .n) (a .own) (a .set) (p .0) bytes (p .1)) (record { below = λ i l. entry-lt s (a .n) (a .own) (a .set) (p .0) bytes (p .1) i }) (a .set) (a .own) _ _ _
-    (set-lt s (a .n) (a .own) (a .set) (p .0) bytes (p .1)) (p .0 .own-from) (omega (arith, p .0 .own-to, p .0 .n-to))
-    (c .before .before .order-bytes .ensures) (c .before .eight-times .ensures) (c .heard-bytes .ensures)
-    ∙ all-found s (a .n) (a .own) (a .set) (p .0) bytes (p .1)))
+    let i = c .before .before .before .loop .inv in
+    let p = c .before .before .before .before .before .before .before .pre .0 in
+    record { fits = omega (arith, bit-le largest (i .bit) (omega (arith, i .looked .to, p .n-to))) })
+    (λ c. omega (arith, c .before .before .before .before .before .order-width .ensures, c .before .before .loop-test .taken))
+    (λ c. let a = c .before .before .before .before .before .before .before .args in
+    omega (arith, c .before .before .before .before .before .order-width .ensures, order-wide (a .n), c .before .before .loop-test .taken))
+    (λ c.
+    let start = c .before .before .before .before .before .before .before in
+    let a = start .args in
+    let p = start .pre in
+    let l = c .before .before .before .loop in
+    let i = l .inv in
+    let left = stall-left (a .n) (l .at) (i .stall) (p .0 .long) (i .looked .stands) (i .looked .to) (c .before .before .loop-test .taken) in
+    record {
+      stall = i .stall + 1;
+      looked = looked-as (or-test (c .bad-order .result) (l .bad))
+          (looked-on (l .at) (c .before .before .before .before .before .order-width .ensures .0)
+          (looked-next (i .looked) left (not (eqb (c .bad-order .result) 0))
+          (c .bad-order .ensures
+          ∙ order-test (a .image .now) (a .n) (a .own) (i .stall) (c .before .order-at .result) (l .one) _ (a .set) (i .looked .from) left (p .0 .own-from)
+          (c .before .order-at .ensures .1) (c .before .order-at .ensures .0 ∙ ap (orderFrom (a .image .now) (a .n)) (i .looked .stands)) (p .1) (i .bit .is)
+          (one-shifted (a .own - 1) (omega (arith, p .0 .own-to, p .0 .n-to))))));
+      bit = bit-next (i .bit);
+    })
+    (λ c.
+    let start = c .before .before .before .before .before in
+    let l = c .before .loop in
+    let i = l .inv in
+    marks-end (start .args .image .now) (start .args .n) (start .args .own) (looked-end (i .looked) (none-left (start .args .n) (l .at) (i .stall) (start .pre .0 .long) (i .looked .stands) (i .looked .from) (c .loop-test .left)))))

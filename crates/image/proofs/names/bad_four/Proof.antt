@@ -12,9 +12,8 @@ bad-four-spec =
     tie.close
     (tie.spec
     (λ c κs. search needs)
-    (λ c. let a = c .before .args in omega (arith, c .limits-of .ensures, over-in (a .w) (a .n) (labelLimit (a .n)) (a .c) (omega arith) (omega arith) (omega (arith, limit-bits (a .n) (c .before .pre .0))) (omega arith)))
-    (λ c κs. search needs)
-    (λ c. let a = c .before .before .args in rw (c .columns-from .ensures) (unlike-fits (a .w) (a .n) (labelLimit (a .n)) (a .c) (omega arith) (omega arith) (omega (arith, limit-bits (a .n) (c .before .before .pre .0))) (omega arith)))
-    (λ c. let a = c .before .before .args in omega (arith, given-in (a .w) (a .n) (labelLimit (a .n)) (a .c) (omega arith) (omega arith) (omega (arith, limit-bits (a .n) (c .before .before .pre .0))) (omega arith)))
-    (λ c. let a = c .before .before .args in low-fits (a .w) (a .n) (labelLimit (a .n)) (a .c) (omega arith) (omega arith) (omega (arith, limit-bits (a .n) (c .before .before .pre .0))) (omega arith))
-    (λ c. let a = c .before .before .args in rw (c .before .limits-of .ensures, c .columns-from .ensures) (four-test (a .w) (a .n) (labelLimit (a .n)) (a .c) (omega arith) (omega arith) (omega (arith, limit-bits (a .n) (c .before .before .pre .0))) (omega arith))))
+    (λ c. let a = c .before .args in omega (arith, c .limits-of .ensures, over-in (a .w) (a .n) (labelLimit (a .n)) (a .columns) (omega arith) (omega arith) (omega (arith, limit-bits (a .n) (c .before .pre .0))) (c .before .pre .1)))
+    (λ c. let a = c .before .args in unlike-fits (a .w) (a .n) (labelLimit (a .n)) (a .columns) (omega arith) (omega arith) (omega (arith, limit-bits (a .n) (c .before .pre .0))) (c .before .pre .1))
+    (λ c. let a = c .before .args in omega (arith, given-in (a .w) (a .n) (labelLimit (a .n)) (a .columns) (omega arith) (omega arith) (omega (arith, limit-bits (a .n) (c .before .pre .0))) (c .before .pre .1)))
+    (λ c. let a = c .before .args in low-fits (a .w) (a .n) (labelLimit (a .n)) (a .columns) (omega arith) (omega arith) (omega (arith, limit-bits (a .n) (c .before .pre .0))) (c .before .pre .1))
+    (λ c. let a = c .before .args in rw (c .limits-of .ensures) (four-test (a .w) (a .n) (labelLimit (a .n)) (a .columns) (omega arith) (omega arith) (omega (arith, limit-bits (a .n) (c .before .pre .0))) (c .before .pre .1))))

@@ -5,25 +5,29 @@ use mathlib.Core.Bool.{Bool, true, false, _||_, not, or-false}
 use mathlib.Core.List.{List}
 use Rattle.image.specs.Stalls.{some}
 use Rattle.image.specs.Layout.{heardAt}
-use Rattle.image.specs.Check.{badUnheard, badRow, badNames}
+use Rattle.image.specs.Check.{badDiagonal, badUnheard, badRow, badNames}
+use Rattle.image.specs.Columns.{badAt}
 use Rattle.image.proofs.Search.{some-or}
 use Rattle.image.proofs.Tables.{none-at}
-use Rattle.image.proofs.RowWords.{bad-entries}
 use Rattle.image.proofs.Windows.{some-false}
 use Rattle.image.proofs.names.bad_names.Statement.{statement}
 use Rattle.image.proofs.names.bad_names.Tie as tie
 
 module _ (s : List ℕ) (n own : ℕ) where
-  both : {bad unheard : Bool} → bad ≡ some n (bad-entries s n own) → unheard ≡ some n (badUnheard s n own) → (bad || unheard) ≡ badNames s n own
+  -- a name of row r is bad by itself, or not the own row's name of stall r
+  abbrev bad-entries : ℕ → Bool
+  bad-entries r = some n (badAt s n r) || badDiagonal s n own r
+
+  both : {bad unheard : Bool} → bad ≡ some n bad-entries → unheard ≡ some n (badUnheard s n own) → (bad || unheard) ≡ badNames s n own
   unfolding badNames badRow
-  both e i = ap₂ _||_ e i ∙ some-or n (bad-entries s n own) (badUnheard s n own)
+  both e i = ap₂ _||_ e i ∙ some-or n bad-entries (badUnheard s n own)
 
   -- where all stalls are heard, no row is that of a stall never heard
   heard-good : (r : ℕ) → not (heardAt s n own r) ≡ false → badUnheard s n own r ≡ false
   unfolding badUnheard
   heard-good r e = rw e
 
-  all-heard : {bad : Bool} → bad ≡ some n (bad-entries s n own) → not (some n (λ r. not (heardAt s n own r))) ≡ true → bad ≡ badNames s n own
+  all-heard : {bad : Bool} → bad ≡ some n bad-entries → not (some n (λ r. not (heardAt s n own r))) ≡ true → bad ≡ badNames s n own
   all-heard {bad} e all =
       sym (or-false bad)
       ∙ both e (sym (some-false n (badUnheard s n own) (λ r a b. heard-good r (none-at n (λ r. not (heardAt s n own r)) (flip (some n (λ r. not (heardAt s n own r))) all) r a b))))

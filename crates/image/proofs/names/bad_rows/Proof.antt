@@ -1,55 +1,41 @@
--- Some row has a bad name, or not the own row's name of its stall.
-use Prim.Native.Nat.{ℕ, _+_, _-_, _*_, _<_}
-use mathlib.Core.Path.{_≡_, ap, ap₂, _∙_}
-use mathlib.Core.Bool.{_&&_, _||_, not}
+-- Some row has a bad name, or not the own row's name of its stall: the columns eight at a time.
+use Prim.Native.Nat.{ℕ, min, _+_, _-_, _*_, _<_, _≤_}
+use mathlib.Core.Path.{_≡_, sym, ap, ap₂, _∙_}
+use mathlib.Core.Bool.{Bool, _||_, not, or-assoc}
 use mathlib.Core.List.{List}
 use native.Mathlib.Omega.{arith}
-use native.Mathlib.Decide.{ℕ-discrete}
-use borrow.Author.Tests.{eq-eqb, ne-eqb}
-use lib.Bits.{bitOr, bitXor}
 use lib.Dec.{eqb}
-use lib.ListN.{getD}
 use Rattle.image.specs.Stalls.{some}
-use Rattle.image.specs.Layout.{labelLimit, rowPlace, partnerAt, labelAt, word}
-use Rattle.image.specs.Check.{badName, badDiagonal}
-use Rattle.image.proofs.Search.{Looked, looked-start, looked-next, looked-as, looked-end}
-use Rattle.image.proofs.Places.{row-within}
-use Rattle.image.proofs.Lanes.{or-test, xor-none}
-use Rattle.image.proofs.RowWords.{bad-entries}
-use Rattle.image.proofs.OrderEntry.{orders-long}
+use Rattle.image.specs.Check.{badDiagonal}
+use Rattle.image.specs.Columns.{columnsFrom, badAt}
+use Rattle.image.proofs.Search.{some-agree, some-or}
+use Rattle.image.proofs.Windows.{some-split}
+use Rattle.image.proofs.Lanes.{or-test}
+use Rattle.image.proofs.NameLanes.{first-columns, columns-low, columns-on}
 use Rattle.image.proofs.names.bad_rows.Statement.{statement}
 use Rattle.image.proofs.names.bad_rows.Tie as tie
 
--- two numbers of two bytes are the same where both bytes are
-both-bytes : (a b c d : ℕ) → b < 256 → d < 256 → eqb (a * 256 + b) (c * 256 + d) ≡ (eqb a c && eqb b d)
-both-bytes a b c d p q = elim (ℕ-discrete a c) [
-  | yes e ↦ elim (ℕ-discrete b d) [
-    | yes i ↦ rw (eq-eqb a c e, eq-eqb b d i) (eq-eqb (a * 256 + b) (c * 256 + d) (omega arith))
-    | no i ↦ rw (eq-eqb a c e, ne-eqb b d i) (ne-eqb (a * 256 + b) (c * 256 + d) (λ j. i (omega arith)))
-  ]
-  | no e ↦ rw (ne-eqb a c e) (ne-eqb (a * 256 + b) (c * 256 + d) (λ j. e (omega arith)))
-]
+-- in the first m columns
+abbrev bad-in : List ℕ → ℕ → ℕ → ℕ → Bool
+bad-in s n own m = some n (λ r. some m (badAt s n r) || badDiagonal s n own r)
 
-row-test : (s : List ℕ) (n own r at here there x y row : ℕ) → ((k : ℕ) → getD s k 0 < 256)
-    → at ≡ rowPlace n r → here ≡ at + (r - 1) * 2 → there ≡ rowPlace n own + (r - 1) * 2
-    → not (eqb row 0) ≡ some n (λ c. badName n (labelLimit n) c (getD s (at + (c - 1) * 2) 0) (getD s (at + (c - 1) * 2 + 1) 0)) → x ≡ word s here → y ≡ word s there
-    → not (eqb (bitOr row (bitXor x y)) 0) ≡ bad-entries s n own r
-unfolding badDiagonal
-row-test s n own r at here there x y row bytes a h t e p q =
-    or-test row (bitXor x y)
-    ∙ ap₂ _||_
-    (e ∙ ap (λ k. some n (λ c. badName n (labelLimit n) c (getD s (k + (c - 1) * 2) 0) (getD s (k + (c - 1) * 2 + 1) 0))) a)
-    (ap not
-    (xor-none x y
-    ∙ ap₂ eqb (p ∙ ap (word s) (h ∙ ap (λ k. k + (r - 1) * 2) a)) (q ∙ ap (word s) t)
-    ∙ both-bytes (partnerAt s n r r) (labelAt s n r r) (partnerAt s n own r) (labelAt s n own r) (bytes _) (bytes _)))
+-- and in the k behind them
+more-columns : (s : List ℕ) (n own m k : ℕ) → (some n (λ r. some k (λ j. badAt s n r (m + j))) || bad-in s n own m) ≡ bad-in s n own (m + k)
+more-columns s n own m k =
+    some-or n (λ r. some k (λ j. badAt s n r (m + j))) (λ r. some m (badAt s n r) || badDiagonal s n own r)
+    ∙ some-agree n _ _ (λ r a b.
+    sym (or-assoc (some k (λ j. badAt s n r (m + j))) (some m (badAt s n r)) (badDiagonal s n own r)) ∙ ap (λ t. t || badDiagonal s n own r) (some-split m k (badAt s n r)))
+
+-- eight columns on
+on-eight : (c : ℕ) {x : ℕ} → 8 ≤ c → x ≡ columnsFrom (c - 8) → x + 0x0008000800080008 ≡ columnsFrom c
+on-eight c l e = ap (λ y. y + 0x0008000800080008) e ∙ columns-on (c - 8) 8 ∙ (let i : c - 8 + 8 ≡ c = omega arith in ap columnsFrom i)
 
 abbrev Inv-loop : tie.InvT-loop
-Inv-loop image n own ownrow bad₀ at₀ here₀ there₀ r₀ bad at here there r =
-    Looked n (n + n) 4 at r (not (eqb bad 0)) (bad-entries image n own) × (here ≡ at + (r - 1) * 2) × (there ≡ ownrow + (r - 1) * 2)
+Inv-loop image n own ownrow bad₀ columns₀ c₀ bad columns c =
+    (8 ≤ c) × (c < n + 8) × (columns ≡ columnsFrom (c - 8)) × (not (eqb bad 0) ≡ bad-in image n own (min n c))
 
 abbrev μ-loop : tie.MeasureT-loop
-μ-loop image n own ownrow bad₀ at₀ here₀ there₀ r₀ bad at here there r = n + 1 - r
+μ-loop image n own ownrow bad₀ columns₀ c₀ bad columns c = n + 8 - c
 
 pub bad-rows-spec : {M : Type 1} → statement M
 bad-rows-spec =
@@ -57,33 +43,32 @@ bad-rows-spec =
     (tie.spec
     Inv-loop
     μ-loop
-    (λ c. (looked-start _, omega arith, omega arith))
-    (λ c κs. let w = row-within (c .before .loop .inv .0 .from) (c .loop-test .taken) in let l = orders-long (c .before .before .before .args .n) in
-    (omega arith, omega arith, omega arith))
-    (λ c κs. let w = row-within (c .before .before .loop .inv .0 .from) (c .before .loop-test .taken) in omega arith)
-    (λ c κs. let p = c .before .before .before .before .before .pre in let w = row-within (p .0 .own-from) (p .0 .own-to) in omega arith)
-    (λ c. omega arith)
-    (λ c. let w = row-within (c .before .before .before .before .loop .inv .0 .from) (c .before .before .before .loop-test .taken) in omega arith)
-    (λ c. omega arith)
-    (λ c. omega arith)
-    (λ c. let w = row-within (c .before .before .before .before .loop .inv .0 .from) (c .before .before .before .loop-test .taken) in omega arith)
-    (λ c. let p = c .before .before .before .before .before .before .pre in let w = row-within (p .0 .own-from) (p .0 .own-to) in omega arith)
-    (λ c. omega arith)
-    (λ c. omega arith)
+    (λ c κs. c .before .pre)
+    (λ c. (omega arith, omega (arith, c .before .before .pre .0 .n-from), first-columns, c .bad-first .ensures))
+    (λ c. let i = c .before .loop .inv in let n = c .before .before .before .before .pre .0 .n-to in
+    record { fits = rw (on-eight (c .before .loop .c) (i .0) (i .2)) (columns-low (c .before .loop .c) (omega (arith, c .loop-test .taken)) .word) })
+    (λ c κs. let i = c .before .loop .inv in let p = c .before .before .before .before .pre .0 in
+    (record { n-from = p .n-from; n-to = p .n-to; long = p .long }, c .loop-test .taken, on-eight (c .before .loop .c) (i .0) (i .2)))
+    (λ c. omega (arith, c .before .before .before .before .before .pre .0 .n-to, c .before .loop-test .taken))
+    (λ c. omega (arith, c .before .loop-test .taken))
     (λ c.
-    let a = c .before .before .before .before .before .before .args in
-    let p = c .before .before .before .before .before .before .pre in
-    let l = c .before .before .before .before .loop in
+    let a = c .before .before .before .before .before .args in
+    let l = c .before .before .loop in
     let i = l .inv in
-    let row = c .before .before .bad-in-row .result in
-    let x = c .before .two-at .result in
-    let y = c .two-at2 .result in (
-      looked-as (or-test (bitOr row (bitXor x y)) (l .bad))
-          (looked-next (i .0) (c .before .before .before .loop-test .taken) (not (eqb (bitOr row (bitXor x y)) 0))
-          (row-test (a .image .now) (a .n) (a .own) (l .r) (l .at) (l .here) (l .there) x y row
-          (λ k. omega (arith, c .before .before .before .before .before .shared-slice-known .given k)) (i .0 .stands) (i .1) (i .2 ∙ ap (λ k. k + (l .r - 1) * 2) (p .1))
-          (c .before .before .bad-in-row .ensures) (c .before .two-at .ensures) (c .two-at2 .ensures))),
-      omega (arith, i .0 .from),
-      omega (arith, i .0 .from),
+    let t = c .before .loop-test .taken in
+    let m : min (a .n) (l .c) ≡ l .c = omega (arith, t) in
+    let k : l .c + min (a .n - l .c) 8 ≡ min (a .n) (l .c + 8) = omega (arith, t) in
+    let e : l .c + 8 - 8 ≡ l .c = omega arith in (
+      omega arith,
+      omega (arith, t),
+      on-eight (l .c) (i .0) (i .2) ∙ ap columnsFrom (sym e),
+      or-test (c .bad-behind .result) (l .bad)
+          ∙ ap₂ _||_ (c .bad-behind .ensures) (i .3 ∙ ap (bad-in (a .image .now) (a .n) (a .own)) m)
+          ∙ more-columns (a .image .now) (a .n) (a .own) (l .c) (min (a .n - l .c) 8)
+          ∙ ap (bad-in (a .image .now) (a .n) (a .own)) k,
     ))
-    (λ c. looked-end (c .before .loop .inv .0) (c .loop-test .left)))
+    (λ c.
+    let a = c .before .before .before .before .args in
+    let l = c .before .loop in
+    let m : min (a .n) (l .c) ≡ a .n = omega (arith, c .loop-test .left) in
+    l .inv .3 ∙ ap (bad-in (a .image .now) (a .n) (a .own)) m))

@@ -1,17 +1,33 @@
 -- The order entry at a place as a number.
-use mathlib.Core.Path.{sym}
+use Prim.Native.Nat.{_+_, _*_}
+use mathlib.Core.Path.{sym, ap₂, _∙_}
 use native.Mathlib.Omega.{arith}
-use lib.ListN.{List·getD-eq-default}
-use Rattle.image.specs.Layout.{orderFrom}
+use borrow.Author.Needs.{needs}
+use Rattle.image.proofs.OrderEntry.{order-wide, order-out, order-byte, order-word}
 use Rattle.image.proofs.orders.order_at.Statement.{statement}
 use Rattle.image.proofs.orders.order_at.Tie as tie
 
 pub order-at-spec : {M : Type 1} → statement M
-unfolding orderFrom
 order-at-spec =
     tie.close
     (tie.spec
-    (λ c. (sym (List·getD-eq-default (c .before .before .args .image .now) 0 (c .if1 .taken)), omega arith))
-    (λ c. omega arith)
-    (λ c κs. tt)
-    (λ c. c .widen .ensures))
+    (λ c. let a = c .before .before .args in (sym (order-out (a .image .now) (a .n) (a .at) (c .if1 .taken)), omega arith))
+    (λ c κs. search needs)
+    (λ c. search needs)
+    (λ c κs. search needs)
+    (λ c.
+    let a = c .before .before .before .before .before .before .args in
+    let w = c .before .before .before .order-width .ensures .0 in
+    (c .widen .ensures .0 ∙ sym (order-byte (a .image .now) (a .n) (a .at) (sym w ∙ c .before .before .if2 .taken)), omega (arith, c .widen .ensures)))
+    (λ c. search needs)
+    (λ c κs. search needs)
+    (λ c. search needs)
+    (λ c. search needs)
+    (λ c κs. search needs)
+    (λ c. omega (arith, c .before .widen2 .ensures, c .byte-at .ensures))
+    (λ c.
+    let start = c .before .before .before .before .before .before .before in
+    let a = start .args in
+    let w = c .before .before .before .before .order-width .ensures in
+    let e = order-word (a .image .now) (a .n) (a .at) (omega (arith, w, order-wide (a .n), c .before .before .before .if2 .left)) in
+    (omega (arith, e, c .before .widen2 .ensures, c .byte-at .ensures), omega (arith, c .before .widen2 .ensures, c .byte-at .ensures))))

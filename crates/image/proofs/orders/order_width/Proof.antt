@@ -1,9 +1,15 @@
 -- The bytes of an order entry.
-use mathlib.Core.Path.{refl}
+use mathlib.Core.Path.{sym}
+use native.Mathlib.Omega.{arith}
+use borrow.Author.Tests.{le-leb, lt-leb}
 use Rattle.image.specs.Layout.{orderWidth}
 use Rattle.image.proofs.orders.order_width.Statement.{statement}
 use Rattle.image.proofs.orders.order_width.Tie as tie
 
 pub order-width-spec : {M : Type 1} → statement M
 unfolding orderWidth
-order-width-spec = tie.close (tie.spec (λ c. refl))
+order-width-spec =
+    tie.close
+    (tie.spec
+    (λ c. (rw (le-leb (c .before .args .n) 8 (c .if1 .taken)), omega arith))
+    (λ c. (rw (lt-leb (c .before .args .n) 8 (c .if1 .left)), omega arith)))

@@ -1,4 +1,4 @@
--- Some of n numbers is none that a yield may be: of the last four, or of the first four where there are more.
+-- Some of n numbers is none that a yield may be: of the last four, or of those before.
 use Prim.Native.Nat.{ℕ, _<_}
 use native.Mathlib.Omega.{arith}
 use borrow.Author.Needs.{needs}
@@ -22,12 +22,12 @@ some-bad-yield-spec =
     last-found s bytes (t .n) (t .end) (omega arith) (t .n) (omega arith) (c .before .before .before .four-numbers .ensures) (c .before .before .first-lanes .ensures) (c .before .bad-four .ensures))
     (λ c. search needs)
     (λ c. search needs)
-    (λ c κs. search needs)
+    (λ c. search needs)
     (λ c κs. search needs)
     (λ c.
-    let l = c .before .before .before in
+    let l = c .before .before in
     let t = l .before .before .before .before .args in
     let s = t .image .now in
     let bytes : (k : ℕ) → getD s k 0 < 256 = λ k. omega (arith, l .before .before .before .shared-slice-known .given k) in
-    both-found s bytes (t .n) (t .end) (omega arith) (omega arith) (omega arith) (omega arith) (c .before .four-numbers2 .ensures) (c .bad-four2 .ensures)
+    both-found s bytes (t .n) (t .end) (omega arith) (omega arith) (omega arith) (c .bad-fours .ensures)
     (last-found s bytes (t .n) (t .end) (omega arith) 4 (omega arith) (l .before .before .four-numbers .ensures) (l .before .first-lanes .ensures) (l .bad-four .ensures))))
