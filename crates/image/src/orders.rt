@@ -1,6 +1,6 @@
 // Order entries of an image, read and written at their places: only here does the code know how many bytes an entry has.
 ghost use mathlib.Core.Path.{_≡_};
-ghost use Prim.Native.Nat.{_*_, _%_, _^_, _<_, _≤_};
+ghost use Prim.Native.Nat.{_*_, _%_, _^_, _<_};
 ghost use lib.ListN.{getD};
 ghost use lib.Seq.{sets};
 ghost use Rattle.image.specs.Layout.{largest, orderFrom, orderWidth, ordersFrom};
@@ -10,7 +10,7 @@ use crate::marks::widen;
 
 // The bytes of an order entry in an image of n stalls.
 pub fn order_width(n: usize) -> usize
-    ensures { λ r. ⌜ (r ≡ orderWidth n) × (r ≤ 2) ⌝ }
+    ensures { λ r. ⌜ r ≡ orderWidth n ⌝ }
 {
     if n <= 8 { 1 } else { 2 }
 }

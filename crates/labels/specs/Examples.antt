@@ -28,7 +28,8 @@ three-heads = refl
 lastLabel : ℕ → ℕ
 lastLabel N = label N (meetings (tight N)) (length (tight N))
 
--- the tight list's last label is N - 1, for N from 2 to 8
-tight-labels : map lastLabel (2 ∷ 3 ∷ 4 ∷ 5 ∷ 6 ∷ 7 ∷ 8 ∷ []) ≡ 1 ∷ 2 ∷ 3 ∷ 4 ∷ 5 ∷ 6 ∷ 7 ∷ []
+-- the tight list's last label is N - 1, for N from 2 to 16
+tight-labels : map lastLabel (2 ∷ 3 ∷ 4 ∷ 5 ∷ 6 ∷ 7 ∷ 8 ∷ 9 ∷ 10 ∷ 11 ∷ 12 ∷ 13 ∷ 14 ∷ 15 ∷ 16 ∷ [])
+    ≡ 1 ∷ 2 ∷ 3 ∷ 4 ∷ 5 ∷ 6 ∷ 7 ∷ 8 ∷ 9 ∷ 10 ∷ 11 ∷ 12 ∷ 13 ∷ 14 ∷ 15 ∷ []
 unfolding evaluated lastLabel tight rounds
 tight-labels = refl

@@ -12,6 +12,7 @@ use Rattle.image.specs.Layout.{labelLimit}
 use Rattle.image.specs.Check.{checked}
 use Rattle.image.specs.Encode.{encode, tableOf}
 use Rattle.image.specs.Theory.{Passes}
+use Rattle.image.proofs.NameBytes.{limit-bits, limit-five}
 use Rattle.image.proofs.Accepted.{accepted, checked-accepted}
 use Rattle.merge.specs.Merged.{merged}
 use Rattle.merge.specs.Call.{refusedMeeting, acceptedMeeting, metTogether, meetingCall}
@@ -40,9 +41,10 @@ module _ (s u buffer : List ℕ) where
       let w = taken s u buffer l in
       rw (w .is, w .long) (newLabel-limit (heads s u (w .first-passes) (w .second-passes) (w .differ)))
 
-  bits : meetingCall s u buffer .answer < 256 → meetingCall s u buffer .answer < 2 ^ 5
-  unfolding labelLimit
-  bits l = let w = taken s u buffer l in omega (arith, limit l, w .long, accepted s _ (w .first-passes) .frame .n-to)
+  bits : meetingCall s u buffer .answer < 256 → (meetingCall s u buffer .answer < 2 ^ 6) × (length buffer ≤ 8 → meetingCall s u buffer .answer < 2 ^ 5)
+  bits l =
+      let w = taken s u buffer l in
+      (omega (arith, limit l, limit-bits (length buffer) (omega (arith, w .long, accepted s _ (w .first-passes) .frame .n-to))), λ m. omega (arith, limit l, limit-five (length buffer) m))
 
   two : meetingCall s u buffer .answer < 256 → length buffer ≡ 2 → meetingCall s u buffer .answer < labelLimit 2
   two l e =

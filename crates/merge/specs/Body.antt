@@ -40,7 +40,7 @@ unfoldable pub bodyYield : List ℕ → List ℕ → ℕ → ℕ → ℕ → (�
 bodyYield s u n p q t r =
     cond (eqb r p) (pairAt s 2) (cond (eqb r q) (pairAt u 2) (pairAt (sourceOf s u t r) (yieldPlace n r)))
 
--- two bytes a stall for n stalls, with zeros behind them to 16 bytes
+-- two bytes a stall for n stalls, with zeros behind them to the longest row
 abbrev pub padded : ℕ → List ℕ → List ℕ
 padded n l = l ++ replicate (longestRow - n * 2) 0
 

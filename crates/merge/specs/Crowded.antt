@@ -1,4 +1,4 @@
--- That the label limit is exact: two accepted images, the same for every n, whose names of the pair 1, 2 use up every label below it. By evaluation, for N from 2 to 8.
+-- That the label limit is exact: two accepted images, the same for every n, whose names of the pair 1, 2 use up every label below it. By evaluation, for N from 2 to 10, and 16.
 use Prim.Native.Nat.{ℕ, _+_, _-_, _*_}
 use mathlib.Core.Path.{_≡_, refl}
 use mathlib.Core.Bool.{_||_, cond}
@@ -38,18 +38,18 @@ call : ℕ → MeetingOutcome
 call n = meetingCall (image n 1) (image n 2) (replicate n 5)
 
 abbrev moreThanTwo : List ℕ
-moreThanTwo = 3 ∷ 4 ∷ 5 ∷ 6 ∷ 7 ∷ 8 ∷ []
+moreThanTwo = 3 ∷ 4 ∷ 5 ∷ 6 ∷ 7 ∷ 8 ∷ 9 ∷ 10 ∷ 16 ∷ []
 
 abbrev sizes : List ℕ
 sizes = 2 ∷ moreThanTwo
 
 -- both images are accepted
-crowded-accepted : (map (λ n. numberOf (checked (image n 1))) sizes ≡ replicate 7 0) × (map (λ n. numberOf (checked (image n 2))) sizes ≡ replicate 7 0)
+crowded-accepted : (map (λ n. numberOf (checked (image n 1))) sizes ≡ replicate 10 0) × (map (λ n. numberOf (checked (image n 2))) sizes ≡ replicate 10 0)
 unfolding evaluated crowded
 crowded-accepted = (refl, refl)
 
 -- and their label is the limit
-crowded-labels : (map (λ n. newLabel n 1 (crowded n 1) 2 (crowded n 2)) sizes ≡ map labelLimit sizes) × (map labelLimit sizes ≡ 6 ∷ 10 ∷ 14 ∷ 18 ∷ 22 ∷ 26 ∷ 30 ∷ [])
+crowded-labels : (map (λ n. newLabel n 1 (crowded n 1) 2 (crowded n 2)) sizes ≡ map labelLimit sizes) × (map labelLimit sizes ≡ 6 ∷ 10 ∷ 14 ∷ 18 ∷ 22 ∷ 26 ∷ 30 ∷ 34 ∷ 38 ∷ 62 ∷ [])
 unfolding evaluated crowded
 crowded-labels = (refl, refl)
 

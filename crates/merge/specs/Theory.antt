@@ -26,8 +26,8 @@ pub record Theory : Type 0 where
   -- So one of 0 to the limit is always free, and the label is one of these; and so is what a meeting answers that is not refused.
   pub newLabel-limit : (s u : List ℕ) (n p q : ℕ) → Passes s n p → Passes u n q → (p ≡ q → ⊥) → newLabel n p (tableOf s n) q (tableOf u n) ≤ labelLimit n
   pub meeting-limit : (s u buffer : List ℕ) → let o = meetingCall s u buffer in o .answer < 256 → o .answer ≤ labelLimit (length buffer)
-  -- "Our link people need the label in five bits."
-  pub meeting-bits : (s u buffer : List ℕ) → let o = meetingCall s u buffer in o .answer < 256 → o .answer < 2 ^ 5
+  -- "Our link people need the label in five bits.", which 2 to 8 heads keep to whatever two images meet; more heads take six.
+  pub meeting-bits : (s u buffer : List ℕ) → let o = meetingCall s u buffer in o .answer < 256 → (o .answer < 2 ^ 6) × (length buffer ≤ 8 → o .answer < 2 ^ 5)
   -- Two heads by themselves never reach it: with six different names their own rows have no meeting in common, and they do not belong together.
   pub label-of-two : (s u buffer : List ℕ) → let o = meetingCall s u buffer in o .answer < 256 → length buffer ≡ 2 → o .answer < labelLimit 2
   -- Where none of 1 to 8 applies, 9 is for exactly the images that do not belong together.

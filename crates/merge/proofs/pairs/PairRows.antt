@@ -27,7 +27,7 @@ pub length-choice : (m : ℕ) (x y : List ℕ) (t : Bool) → length x ≡ m →
 length-choice m x y true a b = a
 length-choice m x y false a b = b
 
--- a row of n pairs is 16 bytes
+-- a row of n pairs has the bytes of the longest
 pub length-padded : (n : ℕ) (l : List ℕ) → n ≤ largest → length l ≡ n * 2 → length (padded n l) ≡ longestRow
 length-padded n l a e = length-append l (replicate (longestRow - n * 2) 0) ∙ omega (arith, length-replicate {A = ℕ} (longestRow - n * 2) 0)
 

@@ -16,7 +16,7 @@ use Rattle.image.proofs.OrderEntry.{length-order, entry-within}
 use Rattle.image.proofs.Places.{yields-from}
 use Rattle.merge.specs.Body.{orderIn, rowIn}
 
--- rows by value of 16 bytes each, written one after the other
+-- rows by value, each as long as the longest, written one after the other
 module _ (d : List ℕ) (n : ℕ) (rows : List (List ℕ)) (sized : Sized d n) (long : (r : ℕ) → 1 ≤ r → r ≤ n → length (getD rows (r - 1) []) ≡ longestRow)
     (c at : ℕ) (l : c < n) (stands : at ≡ 4 + c * (n + n)) where
   pub row-long : length (getD rows c []) ≡ longestRow

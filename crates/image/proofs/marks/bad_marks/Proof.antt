@@ -17,7 +17,7 @@ use Rattle.image.proofs.Search.{Looked, looked-start, looked-next, look
 use Rattle.image.proofs.Places.{orders-from}
 use Rattle.image.proofs.Lanes.{or-test}
 use Rattle.image.proofs.Gather.{Bit, bit-start, bit-next, bit-le}
-use Rattle.image.proofs.OrderEntry.{order-wide, order-within}
+use Rattle.image.proofs.OrderEntry.{order-wide, order-two, order-within}
 use Rattle.image.proofs.OrderTest.{order-test}
 use Rattle.image.proofs.marks.bad_marks.Statement.{statement}
 use Rattle.image.proofs.marks.bad_marks.Tie as tie
@@ -79,7 +79,8 @@ bad-marks-spec =
     let i = c .before .before .before .loop .inv in
     let p = c .before .before .before .before .before .before .before .pre .0 in
     record { fits = omega (arith, bit-le largest (i .bit) (omega (arith, i .looked .to, p .n-to))) })
-    (λ c. omega (arith, c .before .before .before .before .before .order-width .ensures, c .before .before .loop-test .taken))
+    (λ c. let a = c .before .before .before .before .before .before .before .args in
+    omega (arith, c .before .before .before .before .before .order-width .ensures, order-two (a .n), c .before .before .loop-test .taken))
     (λ c. let a = c .before .before .before .before .before .before .before .args in
     omega (arith, c .before .before .before .before .before .order-width .ensures, order-wide (a .n), c .before .before .loop-test .taken))
     (λ c.
@@ -92,7 +93,7 @@ bad-marks-spec =
     record {
       stall = i .stall + 1;
       looked = looked-as (or-test (c .bad-order .result) (l .bad))
-          (looked-on (l .at) (c .before .before .before .before .before .order-width .ensures .0)
+          (looked-on (l .at) (c .before .before .before .before .before .order-width .ensures)
           (looked-next (i .looked) left (not (eqb (c .bad-order .result) 0))
           (c .bad-order .ensures
           ∙ order-test (a .image .now) (a .n) (a .own) (i .stall) (c .before .order-at .result) (l .one) _ (a .set) (i .looked .from) left (p .0 .own-from)

@@ -3,7 +3,7 @@ use Prim.Native.Nat.{_+_, _*_}
 use mathlib.Core.Path.{sym, ap₂, _∙_}
 use native.Mathlib.Omega.{arith}
 use borrow.Author.Needs.{needs}
-use Rattle.image.proofs.OrderEntry.{order-wide, order-out, order-byte, order-word}
+use Rattle.image.proofs.OrderEntry.{order-wide, order-two, order-out, order-byte, order-word}
 use Rattle.image.proofs.orders.order_at.Statement.{statement}
 use Rattle.image.proofs.orders.order_at.Tie as tie
 
@@ -17,7 +17,7 @@ order-at-spec =
     (λ c κs. search needs)
     (λ c.
     let a = c .before .before .before .before .before .before .args in
-    let w = c .before .before .before .order-width .ensures .0 in
+    let w = c .before .before .before .order-width .ensures in
     (c .widen .ensures .0 ∙ sym (order-byte (a .image .now) (a .n) (a .at) (sym w ∙ c .before .before .if2 .taken)), omega (arith, c .widen .ensures)))
     (λ c. search needs)
     (λ c κs. search needs)
@@ -29,5 +29,5 @@ order-at-spec =
     let start = c .before .before .before .before .before .before .before in
     let a = start .args in
     let w = c .before .before .before .before .order-width .ensures in
-    let e = order-word (a .image .now) (a .n) (a .at) (omega (arith, w, order-wide (a .n), c .before .before .before .if2 .left)) in
+    let e = order-word (a .image .now) (a .n) (a .at) (omega (arith, w, order-wide (a .n), order-two (a .n), c .before .before .before .if2 .left)) in
     (omega (arith, e, c .before .widen2 .ensures, c .byte-at .ensures), omega (arith, c .before .widen2 .ensures, c .byte-at .ensures))))

@@ -1,6 +1,4 @@
 -- The bytes of an order entry.
-use mathlib.Core.Path.{sym}
-use native.Mathlib.Omega.{arith}
 use borrow.Author.Tests.{le-leb, lt-leb}
 use Rattle.image.specs.Layout.{orderWidth}
 use Rattle.image.proofs.orders.order_width.Statement.{statement}
@@ -11,5 +9,5 @@ unfolding orderWidth
 order-width-spec =
     tie.close
     (tie.spec
-    (λ c. (rw (le-leb (c .before .args .n) 8 (c .if1 .taken)), omega arith))
-    (λ c. (rw (lt-leb (c .before .args .n) 8 (c .if1 .left)), omega arith)))
+    (λ c. rw (le-leb (c .before .args .n) 8 (c .if1 .taken)))
+    (λ c. rw (lt-leb (c .before .args .n) 8 (c .if1 .left))))

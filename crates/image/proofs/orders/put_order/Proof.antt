@@ -47,7 +47,7 @@ put-order-spec =
     (λ c. search needs)
     (λ c. search needs)
     (λ c. search needs)
-    (λ c. let a = c .before .before .before .before .args in one-byte (a .image .now) (a .n) (a .at) (a .order) (sym (c .before .order-width .ensures .0) ∙ c .if2 .taken))
+    (λ c. let a = c .before .before .before .before .args in one-byte (a .image .now) (a .n) (a .at) (a .order) (sym (c .before .order-width .ensures) ∙ c .if2 .taken))
     (λ c. search needs)
     (λ c. search needs)
     (λ c. search needs)
