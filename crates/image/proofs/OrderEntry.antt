@@ -37,6 +37,10 @@ order-wide n = wide n .some-byte
 pub order-two : (n : ℕ) → orderWidth n ≤ 2
 order-two n = wide n .two-bytes
 
+pub order-single : (n : ℕ) → n ≤ 8 → orderWidth n ≡ 1
+unfolding orderWidth
+order-single n l = rw (le-leb n 8 l)
+
 -- a byte at least for each stall
 pub orders-long : (n : ℕ) → n ≤ n * orderWidth n
 orders-long n = omega (arith, mul-le-mul {n₁ = n} {m₁ = 1} {n₂ = n} {m₂ = orderWidth n} (omega arith) (order-wide n))

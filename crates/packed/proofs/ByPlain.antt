@@ -12,7 +12,7 @@ use Rattle.merge.specs.Call.{MeetingOutcome, meetingCall}
 use Rattle.merge.proofs.meeting.Outcomes.{kept}
 use Rattle.head.specs.Heard.{heardFrom, heardCall}
 use Rattle.head.specs.Settled.{settledFrom, settledCall}
-use Rattle.packed.specs.Form.{packedImageLength, packed, unpacked}
+use Rattle.packed.specs.Form.{largestPacked, packedImageLength, packed, unpacked}
 use Rattle.packed.specs.Check.{packedChecked}
 use Rattle.packed.specs.Calls.{packedHeardCall, packedSettledCall, packedMeetingCall}
 use Rattle.packed.specs.Bytes.{packedOf, plainOf}
@@ -76,6 +76,9 @@ module _ (s u buffer x y v : List ℕ) (r : ℕ)
     count : taken .n ≡ getD x 0 0
     count = sym (first-good .count)
 
+    few : taken .n ≤ largestPacked
+    few = good-packed s (sym (checked-plain s) ∙ taken .first-passes) .few
+
     pub may-pack : Sized x (getD x 0 0) × Sized y (getD x 0 0) × (length s ≡ packedImageLength (getD x 0 0)) × (length u ≡ packedImageLength (getD x 0 0))
     may-pack =
         let f = first-good .frame in
@@ -91,6 +94,6 @@ module _ (s u buffer x y v : List ℕ) (r : ℕ)
     met-packed a b z w z-is w-is =
         let same = met ∙ alike .2 (subst (λ k. k < 256) answers l) in
         let number = ap (λ o. o .answer) same in
-        let first = z-is ∙ ap (λ n. packedOf n x) (sym count) ∙ packed-is first-good a ∙ ap (λ o. packed (o .first)) same in
-        let second = w-is ∙ ap (λ n. packedOf n y) (sym count) ∙ packed-is second-good b ∙ ap (λ o. packed (o .second)) same in
+        let first = z-is ∙ ap (λ n. packedOf n x) (sym count) ∙ packed-is first-good few a ∙ ap (λ o. packed (o .first)) same in
+        let second = w-is ∙ ap (λ n. packedOf n y) (sym count) ∙ packed-is second-good few b ∙ ap (λ o. packed (o .second)) same in
         rw (after-taken s u buffer (meetingCall (unpacked s) (unpacked u) buffer) (subst (λ k. k < 256) number l), number, first, second, ap (λ o. o .verdicts) same)

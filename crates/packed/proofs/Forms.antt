@@ -5,7 +5,7 @@ use mathlib.Core.List.{List, [], _∷_, _++_, append-assoc}
 use native.Mathlib.Omega.{arith}
 use lib.ListN.{length, getD, length-append}
 use Rattle.image.specs.Stalls.{each, bits}
-use Rattle.image.specs.Layout.{largest, nameFrom, nameAt, orderWidth}
+use Rattle.image.specs.Layout.{nameFrom, nameAt, orderWidth}
 use Rattle.image.specs.Encode.{Table, nameBytes, wordBytes, orderBytes, encode, tableOf}
 use Rattle.image.specs.Made.{Made}
 use Rattle.image.specs.declared.Name.{Name}
@@ -15,10 +15,11 @@ use Rattle.image.proofs.Encoding as Encoding
 use Rattle.image.proofs.Encoding.{Proper, name-wide}
 use Rattle.image.proofs.Accepted.{Accepted, accepted-encode}
 use Rattle.image.proofs.AcceptedMade.{accepted-made}
-use Rattle.packed.specs.Form.{packedImageLength, packedPlace, nameByte, packedImage, packed, nameOf, unpackedRow, unpackedOf, unpacked}
+use Rattle.packed.specs.Form.{largestPacked, packedImageLength, packedPlace, nameByte, packedImage, packed, nameOf, unpackedRow, unpackedOf, unpacked}
 use Rattle.packed.specs.Bytes.{packedRow, packedOf}
 use Rattle.packed.proofs.Small.{Small}
 use Rattle.packed.proofs.Names.{proper-of, name-back, name-small}
+use Rattle.packed.proofs.Sizes.{unpacked-is}
 use Rattle.packed.proofs.Rows.{rows, rows-agree, parts-agree, length-between, between}
 
 -- the name whose bytes stand at a place
@@ -83,7 +84,7 @@ module _ (n own : ℕ) (t : Table) where
       ∙ length-between n 1 n (λ r c. nameByte c (t .names r c) ∷ []) (omega arith) (λ r c. refl) header (yields ++ orders)
       ∙ omega (arith, length-rest)
 
-  module _ (n-to : n ≤ largest) (m : Made n own t) where
+  module _ (n-to : n ≤ largestPacked) (m : Made n own t) where
     names-back : (r c : ℕ) → 1 ≤ r → r ≤ n → 1 ≤ c → c ≤ n → nameOf c (nameByte c (t .names r c)) ≡ t .names r c
     names-back r c i j k l = name-back n c (t .names r c) k n-to (m .names-in r c i j k l)
 
@@ -97,7 +98,7 @@ module _ (n own : ℕ) (t : Table) where
 
     pub unpacked-image : unpacked (packedImage n own t) ≡ encode n own t
     unfolding packedImage
-    unpacked-image = unpacked-of-image
+    unpacked-image = unpacked-is (packedImage n own t) n-to ∙ unpacked-of-image
 
     -- and its image, packed byte by byte, is its packed image
     pub packed-encode : packedOf n (encode n own t) ≡ packedImage n own t
@@ -116,14 +117,14 @@ module _ {s : List ℕ} {n own : ℕ} (w : Accepted s n own) where
   packed-table = rw (w .count, w .stall)
 
   -- whatever its numbers, packed and unpacked it is the image of what it says
-  pub packed-encodes : unpacked (packed s) ≡ encode n own (tableOf s n)
-  packed-encodes = ap unpacked packed-table ∙ unpacked-image n own (tableOf s n) (w .frame .n-to) (accepted-made w)
+  pub packed-encodes : n ≤ largestPacked → unpacked (packed s) ≡ encode n own (tableOf s n)
+  packed-encodes few = ap unpacked packed-table ∙ unpacked-image n own (tableOf s n) few (accepted-made w)
 
-  module _ (bytes : Small s) where
+  module _ (few : n ≤ largestPacked) (bytes : Small s) where
     -- what the code packs is the packed form
     pub packed-is : packedOf n s ≡ packed s
     packed-is =
-        ap (packedOf n) (sym (accepted-encode w bytes)) ∙ packed-encode n own (tableOf s n) (w .frame .n-to) (accepted-made w) ∙ sym packed-table
+        ap (packedOf n) (sym (accepted-encode w bytes)) ∙ packed-encode n own (tableOf s n) few (accepted-made w) ∙ sym packed-table
 
     pub packed-unpacked : unpacked (packed s) ≡ s
-    packed-unpacked = packed-encodes ∙ accepted-encode w bytes
+    packed-unpacked = packed-encodes few ∙ accepted-encode w bytes

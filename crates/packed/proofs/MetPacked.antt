@@ -1,20 +1,26 @@
 -- A meeting on packed images is that on their unpacked forms.
 use Prim.Native.Nat.{ℕ, _≤_, _<_}
-use mathlib.Core.Path.{_≡_, refl, sym, ap, _∙_}
+use mathlib.Core.Path.{_≡_, refl, sym, ap, subst, _∙_}
 use mathlib.Core.List.{List}
 use native.Mathlib.Omega.{arith}
 use native.Mathlib.Decide.{decLt}
 use borrow.Author.Tests.{lt-ltb, le-ltb}
 use Rattle.merge.specs.Call.{MeetingOutcome, meetingCall}
 use Rattle.merge.proofs.meeting.Outcomes.{kept}
-use Rattle.packed.specs.Form.{packed, unpacked}
+use Rattle.packed.specs.Form.{largestPacked, packed, unpacked}
 use Rattle.packed.specs.Calls.{packedAfter, packedMeetingCall}
+use Rattle.image.proofs.Accepted.{accepted}
+use Rattle.packed.proofs.Sizes.{packed-count}
 use Rattle.packed.proofs.Forms.{packed-encodes}
-use Rattle.packed.proofs.MetAlike.{meeting-after}
+use Rattle.packed.proofs.MetAlike.{After, meeting-after}
 
 -- some outcome equals that of the unpacked forms
 abbrev pub Same : MeetingOutcome → MeetingOutcome → Type 0
 Same o m = (o .answer ≡ m .answer) × (unpacked (o .first) ≡ m .first) × (unpacked (o .second) ≡ m .second) × (o .verdicts ≡ m .verdicts)
+
+-- heads whose unpacked forms met are those of a packed parlour
+pub few-after : (s u : List ℕ) {o : MeetingOutcome} (w : After (unpacked s) (unpacked u) o) → w .n ≤ largestPacked
+few-after s u w = let (l, e) = packed-count s (accepted (unpacked s) _ (w .first-passes)) in subst (λ n. n ≤ largestPacked) e l
 
 module _ (s u buffer : List ℕ) where
   -- what is packed afterwards, by the answer of the plain meeting
@@ -33,7 +39,7 @@ module _ (s u buffer : List ℕ) where
       elim (decLt (m .answer) 256) [
         | yes l ↦
             let w = meeting-after (unpacked s) (unpacked u) buffer l in
-            rw (after-taken m l) (refl, packed-encodes (w .first-after) ∙ w .first-encodes, packed-encodes (w .second-after) ∙ w .second-encodes, refl)
+            rw (after-taken m l) (refl, packed-encodes (w .first-after) (few-after s u w) ∙ w .first-encodes, packed-encodes (w .second-after) (few-after s u w) ∙ w .second-encodes, refl)
         | no l ↦
             let w = kept (unpacked s) (unpacked u) buffer (omega arith) in
             rw (after-kept m (omega arith)) (refl, sym (w .first-stays), sym (w .second-stays), sym (w .verdicts-stay))

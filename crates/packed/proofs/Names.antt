@@ -7,7 +7,7 @@ use native.Mathlib.Omega.{arith}
 use borrow.Author.Tests.{eqb-true, ne-eqb, eq-eqb}
 use lib.Dec.{eqb}
 use lib.ListN.{getD}
-use Rattle.image.specs.Layout.{largest, labelLimit, nameFrom}
+use Rattle.image.specs.Layout.{labelLimit, nameFrom}
 use Rattle.image.specs.Encode.{nameBytes}
 use Rattle.image.specs.Made.{NameIn}
 use Rattle.image.specs.declared.Name.{Name}
@@ -16,7 +16,7 @@ use Rattle.image.proofs.Encoding as Encoding
 use Rattle.image.proofs.Encoding.{Proper}
 use Rattle.image.proofs.NameBytes.{BytesIn, name-in}
 use Rattle.image.proofs.Passing.{either}
-use Rattle.packed.specs.Form.{labels, nameByte, nameOf}
+use Rattle.packed.specs.Form.{labels, largestPacked, nameByte, nameOf}
 use Rattle.packed.proofs.Small.{Small, small-two}
 
 -- A byte
@@ -50,7 +50,7 @@ bytes-small c b l = either (λ x. Small (nameBytes x)) (eqb b (nameByte c Never)
 -- A name
 
 -- that may stand in column c is read back from its byte
-pub name-back : (n c : ℕ) (x : Name) → 1 ≤ c → n ≤ largest → NameIn n c x → nameOf c (nameByte c x) ≡ x
+pub name-back : (n c : ℕ) (x : Name) → 1 ≤ c → n ≤ largestPacked → NameIn n c x → nameOf c (nameByte c x) ≡ x
 unfolding nameByte nameOf labelLimit
 name-back n c Never a b h = rw (eq-eqb (nameByte c Never) (nameByte c Never) refl)
 name-back n c (With m) a b h =
@@ -59,12 +59,12 @@ name-back n c (With m) a b h =
     rw (ne-eqb ((m .partner - 1) * labels + m .label) ((c - 1) * labels) (λ e. h .2 (omega arith)), i, j)
 
 -- and its byte is one
-pub name-small : (n c : ℕ) (x : Name) → c ≤ largest → n ≤ largest → NameIn n c x → nameByte c x < 256
+pub name-small : (n c : ℕ) (x : Name) → c ≤ largestPacked → n ≤ largestPacked → NameIn n c x → nameByte c x < 256
 unfolding nameByte labelLimit
 name-small n c Never a b h = omega arith
 name-small n c (With m) a b h = omega arith
 
 -- the same of two bytes that pass the test of a name in column c
-pub bytes-back : (n c p l : ℕ) → 1 ≤ c → n ≤ largest → BytesIn n c p l → nameBytes (nameOf c (nameByte c (nameFrom p l))) ≡ p ∷ l ∷ []
+pub bytes-back : (n c p l : ℕ) → 1 ≤ c → n ≤ largestPacked → BytesIn n c p l → nameBytes (nameOf c (nameByte c (nameFrom p l))) ≡ p ∷ l ∷ []
 bytes-back n c p l a b h =
     ap nameBytes (name-back n c (nameFrom p l) a b (name-in n c p l a .0 h .1)) ∙ Encoding.bytes-back p l (h .0 .0 .0)

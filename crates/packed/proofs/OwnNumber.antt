@@ -1,6 +1,6 @@
 -- A name byte with the column's own number and a label other than 0 is refused with 5.
 use Prim.Native.Nat.{ℕ, _+_, _-_, _*_, _/_, _%_, _≤_}
-use mathlib.Core.Path.{_≡_, refl, sym, _∙_}
+use mathlib.Core.Path.{_≡_, refl, sym, ap, _∙_}
 use mathlib.Core.Bool.{Bool, true, false}
 use mathlib.Core.List.{List}
 use native.Mathlib.Omega.{arith}
@@ -9,16 +9,16 @@ use lib.ListN.{length, getD, take, drop}
 use lib.Seq.{length-take-le}
 use Rattle.image.specs.Layout.{partnerAt}
 use Rattle.image.specs.Encode.{nameBytes}
-use Rattle.image.specs.Check.{badCount, badStall, badYields, badRow, badNames}
+use Rattle.image.specs.Check.{badStall, badYields, badRow, badNames}
 use Rattle.image.specs.declared.Checked.the-variants.{Refused}
 use Rattle.image.proofs.Has.{has-first}
 use Rattle.image.proofs.Encoding.{name-wide}
 use Rattle.image.proofs.Passing.{passing}
 use Rattle.image.proofs.Stages.{refused-5}
 use Rattle.packed.specs.Form.{labels, packedYieldsPlace, packedImageLength, packedPlace, nameByte, nameOf, unpackedRow, unpackedOf, unpacked}
-use Rattle.packed.specs.Check.{badPackedLength, packedChecked}
+use Rattle.packed.specs.Check.{badPackedCount, badPackedLength, packedChecked}
 use Rattle.packed.proofs.Rows.{between}
-use Rattle.packed.proofs.Sizes.{packed-sized}
+use Rattle.packed.proofs.Sizes.{unpacked-is, packed-sized}
 
 -- such a byte is a name with that partner
 own-partner : (c b : ℕ) → b / labels + 1 ≡ c → (b % labels ≡ 0 → ⊥) → getD (nameBytes (nameOf c b)) 0 0 ≡ c
@@ -49,11 +49,12 @@ own-bad s n own r c i j k l e = go (badNames s n own) refl
 
 -- where none of 1 to 4 applies
 pub own-number : (s : List ℕ) (r c : ℕ) → let n = getD s 0 0 in let b = getD s (packedPlace n r c) 0 in
-    badCount s ≡ false → badPackedLength s ≡ false → badStall n (getD s 1 0) ≡ false → badYields (unpacked s) n ≡ false
+    badPackedCount s ≡ false → badPackedLength s ≡ false → badStall n (getD s 1 0) ≡ false → badYields (unpacked s) n ≡ false
     → 1 ≤ r → r ≤ n → 1 ≤ c → c ≤ n → b / labels + 1 ≡ c → (b % labels ≡ 0 → ⊥) → packedChecked s ≡ Refused 5
 unfolding packedChecked
 own-number s r c count long stall yields i j k l e f =
     let n = getD s 0 0 in
     let own = getD s 1 0 in
-    let partner = partner-unpacked n s (packed-sized s .0 (count, long) .long) r c i j k l ∙ own-partner c (getD s (packedPlace n r c) 0) e f in
+    let z = packed-sized s .0 (count, long) in
+    let partner = ap (λ u. partnerAt u n r c) (unpacked-is s (z .n-to)) ∙ partner-unpacked n s (z .long) r c i j k l ∙ own-partner c (getD s (packedPlace n r c) 0) e f in
     rw (count, long) (sym (refused-5 (unpacked s) n own stall yields (own-bad (unpacked s) n own r c i j k l partner)))

@@ -14,7 +14,7 @@ use Rattle.image.specs.declared.Checked.the-variants.{Good, Refused}
 use Rattle.image.proofs.OrderEntry.{length-is}
 use Rattle.image.proofs.Accepted.{Accepted}
 use Rattle.head.specs.Calls.{refused, accepted}
-use Rattle.packed.specs.Form.{packedLength, packedImageLength}
+use Rattle.packed.specs.Form.{largestPacked, packedLength, packedImageLength}
 use Rattle.packed.specs.Calls.{into}
 use Rattle.packed.proofs.Sizes.{packed-length-is}
 
@@ -36,8 +36,8 @@ module _ {s : List ℕ} {n own m : ℕ} (w : Accepted s n own) (m-is : m ≡ n) 
   pub accepted-sized : Sized s m
   accepted-sized = let f = w .frame in rw m-is (record { n-from = f .n-from; n-to = f .n-to; long = f .long })
 
-  pub packed-long : {long : ℕ} → long ≡ packedLength m → long ≡ packedImageLength m
-  packed-long e = e ∙ rw m-is (packed-length-is n (w .frame .n-from) (w .frame .n-to))
+  pub packed-long : {long : ℕ} → n ≤ largestPacked → long ≡ packedLength m → long ≡ packedImageLength m
+  packed-long few e = e ∙ rw m-is (packed-length-is n (w .frame .n-from) few)
 
   pub plain-sized : {d : List ℕ} → length d ≡ lengthOf m → Sized d m
   plain-sized e =

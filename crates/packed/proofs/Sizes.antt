@@ -1,26 +1,33 @@
 -- How long a packed image and its unpacked form are, and what passing the checks 1 and 2 says.
-use Prim.Native.Nat.{ℕ, _+_, _-_, _*_, _≤_, min}
-use mathlib.Core.Path.{_≡_, refl, sym, _∙_}
+use Prim.Native.Nat.{ℕ, _+_, _-_, _*_, _≤_, _<_, min}
+use mathlib.Core.Path.{_≡_, refl, sym, ap, _∙_}
 use mathlib.Core.Logic.{_↔_, Iff·rfl}
 use mathlib.Core.Bool.{false}
 use mathlib.Core.List.{List, [], _∷_}
 use native.Mathlib.Omega.{arith}
-use borrow.Author.Tests.{le-leb}
+use native.Mathlib.Decide.{decLe}
+use borrow.Author.Tests.{le-leb, lt-leb}
 use lib.ListN.{length, getD, take, drop, length-take, length-drop}
 use Rattle.image.specs.Stalls.{each}
-use Rattle.image.specs.Layout.{largest, orderWidth, imageLength}
+use Rattle.image.specs.Layout.{largest, isCount, imageLength}
 use Rattle.image.specs.Frame.{Sized}
-use Rattle.image.specs.Check.{badCount}
-use Rattle.image.proofs.OrderEntry.{order-wide}
+use Rattle.image.proofs.OrderEntry.{order-wide, order-single}
 use Rattle.image.proofs.Encoding.{name-wide}
 use Rattle.image.proofs.Passing.{passing}
-use Rattle.packed.specs.Form.{packedLength, packedYieldsPlace, packedImageLength, packedPlace, nameOf, unpackedRow, unpackedOf, unpacked}
-use Rattle.packed.specs.Check.{badPackedLength}
+use Rattle.image.proofs.Accepted.{Accepted}
+use Rattle.packed.specs.Form.{largestPacked, isPackedCount, packedLength, packedYieldsPlace, packedImageLength, packedPlace, nameOf, unpackedRow, unpackedOf, unpacked}
+use Rattle.packed.specs.Check.{badPackedCount, badPackedLength}
 use Rattle.packed.proofs.Rows.{length-between}
 
-pub packed-length-is : (n : ℕ) → 2 ≤ n → n ≤ largest → packedLength n ≡ packedImageLength n
-unfolding orderWidth
-packed-length-is n a b = rw (le-leb 2 n a, le-leb n largest b) (omega arith)
+pub packed-length-is : (n : ℕ) → 2 ≤ n → n ≤ largestPacked → packedLength n ≡ packedImageLength n
+packed-length-is n a b = rw (le-leb 2 n a, le-leb n largestPacked b) (omega (arith, ap (λ w. n * w) (order-single n b)))
+
+-- no parlour that is packed is larger than those that are not
+pub packed-few : {n : ℕ} → n ≤ largestPacked → n ≤ largest
+packed-few l = omega arith
+
+pub same-count : {n : ℕ} → n ≤ largestPacked → isPackedCount n ≡ isCount n
+same-count {n} l = rw (le-leb n largestPacked l, le-leb n largest (packed-few l))
 
 -- The unpacked form
 
@@ -35,10 +42,10 @@ pub length-unpacked : (n : ℕ) (p : List ℕ) → length p ≡ packedImageLengt
 length-unpacked n p e = length-unpacked-of n p ∙ omega arith
 
 -- the first byte of any list stays, and the second where there is one
-pub count-unpacked : (p : List ℕ) → getD (unpacked p) 0 0 ≡ getD p 0 0
+pub count-of : (p : List ℕ) → getD (unpackedOf (getD p 0 0) p) 0 0 ≡ getD p 0 0
 unfolding unpackedOf each
-count-unpacked [] = refl
-count-unpacked (x ∷ p) = refl
+count-of [] = refl
+count-of (x ∷ p) = refl
 
 pub stall-unpacked : (n : ℕ) (p : List ℕ) → 2 ≤ length p → getD (unpackedOf n p) 1 0 ≡ getD p 1 0
 unfolding unpackedOf
@@ -46,22 +53,38 @@ stall-unpacked n [] l = absurd (omega arith)
 stall-unpacked n (x ∷ []) l = absurd (omega arith)
 stall-unpacked n (x ∷ y ∷ p) l = refl
 
+-- by N: that of a packed table, or none
+pub unpacked-is : (p : List ℕ) → getD p 0 0 ≤ largestPacked → unpacked p ≡ unpackedOf (getD p 0 0) p
+unfolding unpacked
+unpacked-is p l = rw (le-leb (getD p 0 0) largestPacked l)
+
+pub unpacked-none : (p : List ℕ) → largestPacked < getD p 0 0 → unpacked p ≡ []
+unfolding unpacked
+unpacked-none p l = rw (lt-leb (getD p 0 0) largestPacked l)
+
+-- what passes has N that of a packed table
+pub packed-count : (p : List ℕ) {n own : ℕ} → Accepted (unpacked p) n own → (getD p 0 0 ≤ largestPacked) × (getD p 0 0 ≡ n)
+packed-count p {n} w = elim (decLe (getD p 0 0) largestPacked) [
+  | yes l ↦ (l, sym (ap (λ s. getD s 0 0) (unpacked-is p l) ∙ count-of p) ∙ w .count)
+  | no l ↦ absurd (omega (arith, ap length (unpacked-none p (omega arith)), w .frame .long))
+]
+
 -- A packed image that has passed the checks 1 and 2
 
 pub record PackedSized (p : List ℕ) (n : ℕ) : Type 0 where
   pub n-from : 2 ≤ n
-  pub n-to : n ≤ largest
+  pub n-to : n ≤ largestPacked
   pub long : length p ≡ packedImageLength n
 
-pub count-passes : (p : List ℕ) → (badCount p ≡ false) ↔ ((length p ≡ 0 → ⊥) × ((2 ≤ getD p 0 0) × (getD p 0 0 ≤ largest)))
-unfolding badCount
+pub count-passes : (p : List ℕ) → (badPackedCount p ≡ false) ↔ ((length p ≡ 0 → ⊥) × ((2 ≤ getD p 0 0) × (getD p 0 0 ≤ largestPacked)))
+unfolding badPackedCount
 count-passes p = simp passing Iff·rfl
 
 length-passes : (p : List ℕ) → (badPackedLength p ≡ false) ↔ (length p ≡ packedLength (getD p 0 0))
 unfolding badPackedLength
 length-passes p = simp passing Iff·rfl
 
-pub packed-sized : (p : List ℕ) → ((badCount p ≡ false) × (badPackedLength p ≡ false)) ↔ PackedSized p (getD p 0 0)
+pub packed-sized : (p : List ℕ) → ((badPackedCount p ≡ false) × (badPackedLength p ≡ false)) ↔ PackedSized p (getD p 0 0)
 packed-sized p = (
   λ e.
       let (a, b) = count-passes p .0 (e .0) .1 in
@@ -73,7 +96,7 @@ packed-sized p = (
 )
 
 pub sized-unpacked : {p : List ℕ} {n : ℕ} → PackedSized p n → Sized (unpackedOf n p) n
-sized-unpacked {p} {n} z = record { n-from = z .n-from; n-to = z .n-to; long = length-unpacked n p (z .long) }
+sized-unpacked {p} {n} z = record { n-from = z .n-from; n-to = packed-few (z .n-to); long = length-unpacked n p (z .long) }
 
 -- no other list has an unpacked form as long as an image
 pub unpacked-long : (n : ℕ) (p : List ℕ) → 2 ≤ n → length (unpackedOf n p) ≡ imageLength n → length p ≡ packedImageLength n

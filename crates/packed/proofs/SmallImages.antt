@@ -11,28 +11,30 @@ use lib.Dec.{leb, ltb, eqb}
 use lib.ListN.{set}
 use lib.Pow.{pow-mono}
 use Rattle.image.specs.Stalls.{each, bits}
-use Rattle.image.specs.Layout.{largest, yieldLimit, noYield, isYield}
+use Rattle.image.specs.Layout.{yieldLimit, noYield, isYield}
 use Rattle.image.specs.Encode.{Table, wordBytes, orderBytes, encode, tableOf}
 use Rattle.image.specs.Made.{Made}
 use Rattle.image.specs.declared.Checked.{Checked}
 use Rattle.image.specs.declared.Checked.the-variants.{Good, Refused}
 use Rattle.image.proofs.Bits.{bits-lt}
+use Rattle.image.proofs.OrderEntry.{order-single, bytes-one}
 use Rattle.image.proofs.Passing.{or-holds}
 use Rattle.image.proofs.Accepted.{Accepted}
 use Rattle.image.proofs.AcceptedMade.{accepted-made}
 use Rattle.image.proofs.MadeAccepted.{made-accepted}
 use Rattle.merge.specs.Call.{meetingCall}
 use Rattle.head.specs.Calls.{withCurrent, milked}
-use Rattle.packed.specs.Form.{nameByte, packedImage, packed, unpacked}
+use Rattle.packed.specs.Form.{largestPacked, nameByte, packedImage, packed, unpacked}
 use Rattle.packed.specs.Check.{packedChecked}
 use Rattle.packed.specs.Calls.{packedMilkingCall, packedMeetingCall}
 use Rattle.packed.proofs.Small.{Small, small-two, small-append, small-within}
 use Rattle.packed.proofs.Rows.{rows}
+use Rattle.packed.proofs.Sizes.{packed-few}
 use Rattle.packed.proofs.Names.{name-small}
 use Rattle.packed.proofs.Forms.{header, yields, orders, packed-parts, packed-table, unpacked-of-image, packed-encode, packed-is}
 use Rattle.packed.proofs.Unpacked.{small-unpacked}
 use Rattle.packed.proofs.MetAlike.{meeting-after}
-use Rattle.packed.proofs.MetPacked.{after-taken, after-kept}
+use Rattle.packed.proofs.MetPacked.{few-after, after-taken, after-kept}
 
 small-one : {a : ℕ} → a < 256 → Small (a ∷ [])
 small-one l zero = l
@@ -54,11 +56,10 @@ small-yield x e =
       | inr i ↦ small-two (omega (arith, eqb-true x noYield i)) (omega arith)
     ]
 
-small-order : (n x : ℕ) → n ≤ largest → x < 2 ^ n → Small (orderBytes n x)
-unfolding orderBytes
-small-order n x a b = small-one (omega (arith, pow-mono {i = n} {j = largest} a))
+small-order : (n x : ℕ) → n ≤ largestPacked → x < 2 ^ n → Small (orderBytes n x)
+small-order n x a b = subst Small (sym (bytes-one n x (order-single n a))) (small-one (omega (arith, pow-mono {i = n} {j = largestPacked} a)))
 
-module _ (n own : ℕ) (t : Table) (n-to : n ≤ largest) (own-to : own ≤ n) (m : Made n own t) where
+module _ (n own : ℕ) (t : Table) (n-to : n ≤ largestPacked) (own-to : own ≤ n) (m : Made n own t) where
   abbrev names : ℕ → ℕ → List ℕ
   names r c = nameByte c (t .names r c) ∷ []
 
@@ -82,7 +83,7 @@ module _ (n own : ℕ) (t : Table) (n-to : n ≤ largest) (own-to : own ≤ n) (
 
   -- so its image packs to its packed image
   pub packed-image : 2 ≤ n → 1 ≤ own → packed (encode n own t) ≡ packedImage n own t
-  packed-image n-from own-from = sym (packed-is (made-accepted n own t n-from n-to own-from own-to m) small-encode) ∙ packed-encode n own t n-to m
+  packed-image n-from own-from = sym (packed-is (made-accepted n own t n-from (packed-few n-to) own-from own-to m) n-to small-encode) ∙ packed-encode n own t n-to m
 
 -- a milking sets the two bytes of a yield
 pub small-milked : (s : List ℕ) (yield : ℕ) → Small s → yield ≤ yieldLimit → Small (withCurrent s yield)
@@ -99,9 +100,9 @@ small-milking s yield f = go (packedChecked s) (ltb yieldLimit yield) refl
     go (Good h) true e = rw e f
     go (Good h) false e = rw e (small-milked s yield f (ltb-false yieldLimit yield e))
 
-small-packed : {s : List ℕ} {n own : ℕ} → Accepted s n own → Small (packed s)
-small-packed {s} {n} {own} w =
-    subst Small (sym (packed-table w)) (small-packed-image n own (tableOf s n) (w .frame .n-to) (w .frame .own-to) (accepted-made w))
+small-packed : {s : List ℕ} {n own : ℕ} → Accepted s n own → n ≤ largestPacked → Small (packed s)
+small-packed {s} {n} {own} w few =
+    subst Small (sym (packed-table w)) (small-packed-image n own (tableOf s n) few (w .frame .own-to) (accepted-made w))
 
 pub small-meeting : (s u buffer : List ℕ) → Small s → Small u → let o = packedMeetingCall s u buffer in Small (o .first) × Small (o .second)
 small-meeting s u buffer f g =
@@ -109,6 +110,6 @@ small-meeting s u buffer f g =
     elim (decLt (m .answer) 256) [
       | yes l ↦
           let w = meeting-after (unpacked s) (unpacked u) buffer l in
-          rw (after-taken s u buffer m l) (small-packed (w .first-after), small-packed (w .second-after))
+          rw (after-taken s u buffer m l) (small-packed (w .first-after) (few-after s u w), small-packed (w .second-after) (few-after s u w))
       | no l ↦ rw (after-kept s u buffer m (omega arith)) (f, g)
     ]

@@ -1,5 +1,5 @@
 -- The laws of `specs/Theory.antt` hold of every list.
-use Prim.Native.Nat.{ℕ}
+use Prim.Native.Nat.{ℕ, _≤_}
 use mathlib.Core.Path.{_≡_, sym, ap, _∙_}
 use mathlib.Core.List.{List}
 use Rattle.image.specs.Encode.{tableOf}
@@ -12,25 +12,25 @@ use Rattle.merge.proofs.Theory as merge
 use Rattle.head.specs.Heard.{heardFrom}
 use Rattle.head.specs.Settled.{settledFrom}
 use Rattle.head.proofs.Theory as head
-use Rattle.packed.specs.Form.{packed, unpacked}
+use Rattle.packed.specs.Form.{largestPacked, packed, unpacked}
 use Rattle.packed.specs.Check.{packedChecked}
 use Rattle.packed.specs.Calls.{packedMilkingCall, packedMeetingCall}
 use Rattle.packed.specs.Theory.{PackedPasses, Theory}
 use Rattle.packed.proofs.Forms.{packed-encodes, packed-unpacked}
 use Rattle.packed.proofs.Unpacked.{unpacked-packed}
-use Rattle.packed.proofs.Checks.{good-packed, checked-unpacked}
+use Rattle.packed.proofs.Checks.{over-packed, over-packable, packable-checked, good-packed, checked-unpacked}
 use Rattle.packed.proofs.OwnNumber.{own-number}
-use Rattle.packed.proofs.FreshPacked.{packed-fresh, fresh-same, fresh-zero, fresh-refused}
+use Rattle.packed.proofs.FreshPacked.{packed-fresh, fresh-same, fresh-over, fresh-zero, fresh-refused}
 use Rattle.packed.proofs.MilkedPacked.{milking-same, milking-refused}
 use Rattle.packed.proofs.MetPacked.{meeting-same, meeting-refused}
 
 -- it unpacks to the image of what it says, which is well made
-packed-checked : (s : List ℕ) (n own : ℕ) → Passes s n own → PackedPasses (packed s) n own
-packed-checked s n own e =
+packed-checked : (s : List ℕ) (n own : ℕ) → Passes s n own → n ≤ largestPacked → PackedPasses (packed s) n own
+packed-checked s n own e few =
     let w = accepted s _ e in
     let f = w .frame in
     sym (checked-unpacked (packed s))
-    ∙ ap checked (packed-encodes w)
+    ∙ ap checked (packed-encodes w few)
     ∙ checked-accepted (made-accepted n own (tableOf s n) (f .n-from) (f .n-to) (f .own-from) (f .own-to) (accepted-made w))
 
 -- lists whose unpacked forms are checked alike are checked alike
@@ -44,9 +44,13 @@ theory =
       unpack-pack = λ s n own e. let w = good-packed s e in unpacked-packed s (w .unpacks) (w .long);
       unpacked-checked = checked-unpacked;
       packed-checked = packed-checked;
+      over-packed = over-packed;
+      over-packable = over-packable;
+      packable-checked = packable-checked;
       own-number = own-number;
       packed-fresh = packed-fresh;
       fresh-same = fresh-same;
+      fresh-over = fresh-over;
       fresh-zero = fresh-zero;
       fresh-refused = fresh-refused;
       milking-same = milking-same;

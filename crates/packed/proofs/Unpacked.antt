@@ -1,6 +1,6 @@
 -- A packed image, unpacked and packed again, is as it was.
-use Prim.Native.Nat.{ℕ, _+_, _-_, _*_, _%_}
-use mathlib.Core.Path.{_≡_, refl, sym, ap, _∙_}
+use Prim.Native.Nat.{ℕ, _+_, _-_, _*_, _%_, _≤_}
+use mathlib.Core.Path.{_≡_, refl, sym, ap, subst, _∙_}
 use mathlib.Core.List.{List, [], _∷_, _++_}
 use native.Mathlib.Omega.{arith}
 use native.Mathlib.Nat.{mul-le-mul-right}
@@ -10,12 +10,12 @@ use Rattle.image.specs.Encode.{nameBytes}
 use Rattle.image.proofs.Search.{times-step}
 use Rattle.image.proofs.Has.{Has, has-one, has-place, has-part}
 use Rattle.image.proofs.Accepted.{Accepted}
-use Rattle.packed.specs.Form.{packedYieldsPlace, packedImageLength, packedPlace, packed, nameOf, unpackedRow, unpackedOf, unpacked}
+use Rattle.packed.specs.Form.{largestPacked, packedYieldsPlace, packedImageLength, packedPlace, packed, nameOf, unpackedRow, unpackedOf, unpacked}
 use Rattle.packed.specs.Bytes.{packedOf}
 use Rattle.packed.proofs.Small.{Small, small-append, small-each, small-take, small-drop}
 use Rattle.packed.proofs.Names.{byte-back, proper-of, bytes-small}
 use Rattle.packed.proofs.Rows.{rows, rows-agree, length-rows, rows-has}
-use Rattle.packed.proofs.Sizes.{count-unpacked}
+use Rattle.packed.proofs.Sizes.{unpacked-is, packed-count}
 use Rattle.packed.proofs.Forms.{one-byte, packed-rows, packed-is}
 
 module _ (p : List ℕ) (n : ℕ) (long : length p ≡ packedImageLength n) where
@@ -53,6 +53,9 @@ small-unpacked n p f =
 
 pub unpacked-packed : (p : List ℕ) {n own : ℕ} → Accepted (unpacked p) n own → length p ≡ packedImageLength n → Small p → packed (unpacked p) ≡ p
 unpacked-packed p {n} w long bytes =
-    sym (packed-is w (small-unpacked (getD p 0 0) p bytes))
-    ∙ ap (λ m. packedOf n (unpackedOf m p)) (sym (count-unpacked p) ∙ w .count)
+    let (l, count) = packed-count p w in
+    let is = unpacked-is p l in
+    sym (packed-is w (subst (λ m. m ≤ largestPacked) count l) (subst Small (sym is) (small-unpacked (getD p 0 0) p bytes)))
+    ∙ ap (packedOf n) is
+    ∙ ap (λ m. packedOf n (unpackedOf m p)) count
     ∙ unpacked-packed-of p n long bytes

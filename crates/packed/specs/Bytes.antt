@@ -5,9 +5,8 @@ use mathlib.Core.List.{List, [], _∷_, _++_}
 use lib.ListN.{getD, take, drop}
 use Rattle.image.specs.Stalls.{each}
 use Rattle.image.specs.Layout.{nameAt, yieldsPlace}
-use Rattle.image.specs.Check.{badCount}
 use Rattle.packed.specs.Form.{nameByte, unpacked}
-use Rattle.packed.specs.Check.{badPackedLength}
+use Rattle.packed.specs.Check.{badPackedCount, badPackedLength}
 
 -- an image packed, byte by byte: `packed`, for an accepted image
 unfoldable pub packedRow : List ℕ → ℕ → ℕ → List ℕ
@@ -18,4 +17,4 @@ packedOf n s = take 4 s ++ each n (packedRow s n) ++ drop (yieldsPlace n) s
 
 -- what is handed to the plain calls: the unpacked form; and of what 1 or 2 refuses, a run that is refused with the same number
 unfoldable pub plainOf : List ℕ → List ℕ
-plainOf s = cond (badCount s) [] (cond (badPackedLength s) (getD s 0 0 ∷ []) (unpacked s))
+plainOf s = cond (badPackedCount s) [] (cond (badPackedLength s) (getD s 0 0 ∷ []) (unpacked s))

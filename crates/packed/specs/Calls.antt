@@ -5,17 +5,17 @@ use mathlib.Core.Bool.{not, cond}
 use mathlib.Core.List.{List}
 use lib.Dec.{eqb, ltb}
 use lib.ListN.{length}
-use Rattle.image.specs.Layout.{isCount, lengthOf}
+use Rattle.image.specs.Layout.{lengthOf}
 use Rattle.image.specs.Encode.{nothing}
-use Rattle.image.specs.Check.{badStall, checked}
+use Rattle.image.specs.Check.{badStall}
 use Rattle.image.specs.declared.Checked.{Checked}
 use Rattle.image.specs.declared.Checked.the-variants.{Good, Refused}
 use Rattle.merge.specs.Call.{MeetingOutcome, meetingCall}
 use Rattle.head.specs.Calls.{Outcome, refused, accepted, freshInto, milked}
 use Rattle.head.specs.Heard.{HeardOutcome, heardFrom}
 use Rattle.head.specs.Settled.{Settled, settledFrom}
-use Rattle.packed.specs.Form.{packedLength, packedImage, packed, unpacked}
-use Rattle.packed.specs.Check.{packedChecked}
+use Rattle.packed.specs.Form.{isPackedCount, packedLength, packedImage, packed, unpacked}
+use Rattle.packed.specs.Check.{packedChecked, packableChecked}
 
 -- some form of an image into a buffer, by the check of the image and the length of the form for N: a wrong one "is 8, after 1 to 6"
 unfoldable pub into : List ℕ → Checked → (ℕ → ℕ) → List ℕ → Outcome
@@ -24,14 +24,14 @@ into form (Good h) long out = cond (not (eqb (length out) (long (h .n)))) (refus
 
 -- an image packed, and a packed image unpacked, into a buffer
 abbrev pub packCall : List ℕ → List ℕ → Outcome
-packCall s out = into (packed s) (checked s) packedLength out
+packCall s out = into (packed s) (packableChecked s) packedLength out
 
 abbrev pub unpackCall : List ℕ → List ℕ → Outcome
 unpackCall s out = into (unpacked s) (packedChecked s) lengthOf out
 
 -- "A fresh table tries 1 for N, 2 for the buffer, 3."
 unfoldable pub packedFreshCall : List ℕ → ℕ → ℕ → Outcome
-packedFreshCall s n stall = freshInto (not (isCount n)) (not (eqb (length s) (packedLength n))) (badStall n stall) (packedImage n stall nothing) s
+packedFreshCall s n stall = freshInto (not (isPackedCount n)) (not (eqb (length s) (packedLength n))) (badStall n stall) (packedImage n stall nothing) s
 
 -- a milking: the header of a packed image is that of the plain one
 abbrev pub packedMilkingCall : List ℕ → ℕ → Outcome

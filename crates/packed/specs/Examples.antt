@@ -11,12 +11,12 @@ use Rattle.image.specs.Examples as Plain
 use Rattle.image.specs.Examples.{listing, notMilked, withLabel}
 use Rattle.head.specs.Settled.{settledCounts, settledFrom}
 use Rattle.packed.specs.Form.{packedLength, nameByte, packedImage, packed, nameOf, unpackedRow, unpackedOf, unpacked}
-use Rattle.packed.specs.Check.{badPackedLength, packedChecked}
+use Rattle.packed.specs.Check.{badPackedCount, badPackedLength, packedChecked, packableChecked}
 use Rattle.packed.specs.Calls.{packedSettledCall}
 
 -- whoever unfolds this unfolds all that a packed image is made, read and checked with
 unfoldable pub evaluated : Unit {0}
-unfolding Plain.evaluated nameByte packedImage packed nameOf unpackedRow unpackedOf badPackedLength packedChecked
+unfolding Plain.evaluated nameByte packedImage packed nameOf unpackedRow unpackedOf unpacked badPackedCount badPackedLength packedChecked packableChecked
 evaluated = tt
 
 -- "The heads' memory is to hold 92 bytes, not 156."
@@ -51,6 +51,13 @@ fresh-examples = (refl, refl)
 
 number : List ℕ → ℕ
 number s = numberOf (packedChecked s)
+
+-- Request 2026-09: "a packed table over 8 is still number 1, and so is a plain one over 8 that is to be packed", whatever else is wrong with it
+over-examples : (map number (packedImage 8 1 nothing ∷ packedImage 9 1 nothing ∷ packedImage 16 1 nothing ∷ (9 ∷ []) ∷ []) ≡ 0 ∷ 1 ∷ 1 ∷ 1 ∷ [])
+    × (map (λ s. numberOf (packableChecked s)) (freshImage 8 1 ∷ freshImage 9 1 ∷ freshImage 16 17 ∷ (9 ∷ []) ∷ (8 ∷ []) ∷ []) ≡ 0 ∷ 1 ∷ 1 ∷ 1 ∷ 2 ∷ [])
+    × (unpacked (packedImage 9 1 nothing) ≡ [])
+unfolding evaluated number
+over-examples = (refl, refl, refl)
 
 -- head 1 of 2 that was not milked: the name in row 1, column 1, and the order byte of stall 1
 abbrev pub withName : ℕ → ℕ → List ℕ

@@ -2,19 +2,30 @@
 -- Request 2026-04: "Each name becomes one byte: partner minus 1 in the upper three bits, label in the lower five; a stall's own number as partner, with label 0, means
 -- none. Header, yields and marks keep their order, so the length is N × N + 3 × N + 4."
 use Prim.Native.Nat.{ℕ, _+_, _-_, _*_, _/_, _%_}
-use mathlib.Core.Bool.{cond}
+use mathlib.Core.Bool.{Bool, _&&_, cond}
 use mathlib.Core.List.{List, [], _∷_, _++_}
-use lib.Dec.{eqb}
+use lib.Dec.{leb, eqb}
 use lib.ListN.{getD, take, drop}
 use Rattle.image.specs.Stalls.{each, bits}
-use Rattle.image.specs.Layout.{isCount, orderWidth}
+use Rattle.image.specs.Layout.{orderWidth}
 use Rattle.image.specs.Encode.{Table, nameBytes, wordBytes, orderBytes, tableOf}
 use Rattle.image.specs.declared.Name.{Name}
 use Rattle.image.specs.declared.Name.the-variants.{Never, With}
 
+-- the most heads of a parlour whose tables can be packed: three bits of a name tell its partner. Request 2026-09: "a packed table over 8 is still number 1"
+abbrev pub largestPacked : ℕ
+largestPacked = 8
+
+abbrev pub isPackedCount : ℕ → Bool
+isPackedCount n = leb 2 n && leb n largestPacked
+
+-- the bytes of the longest image that is packed
+abbrev pub longestUnpacked : ℕ
+longestUnpacked = 156
+
 -- "N × N + 3 × N + 4", for 2 to 8 heads; 0 for any other number
 abbrev pub packedLength : ℕ → ℕ
-packedLength n = cond (isCount n) (n * n + 3 * n + 4) 0
+packedLength n = cond (isPackedCount n) (n * n + 3 * n + 4) 0
 
 -- "partner minus 1 in the upper three bits, label in the lower five": so many labels
 abbrev pub labels : ℕ
@@ -58,5 +69,6 @@ unpackedRow s n r = each n (λ c. nameBytes (nameOf c (getD s (packedPlace n r c
 unfoldable pub unpackedOf : ℕ → List ℕ → List ℕ
 unpackedOf n s = take 4 s ++ each n (unpackedRow s n) ++ drop (packedYieldsPlace n) s
 
-abbrev pub unpacked : List ℕ → List ℕ
-unpacked s = unpackedOf (getD s 0 0) s
+-- of a run with N over that of packed tables there is none: the empty run, which 1 refuses too
+unfoldable pub unpacked : List ℕ → List ℕ
+unpacked s = cond (leb (getD s 0 0) largestPacked) (unpackedOf (getD s 0 0) s) []

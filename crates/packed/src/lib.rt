@@ -5,8 +5,9 @@ ghost use Rattle.merge.specs.Call.{MeetingOutcome};
 ghost use Rattle.head.specs.Calls.{Outcome};
 ghost use Rattle.head.specs.Heard.{HeardOutcome};
 ghost use Rattle.head.specs.Settled.{Settled};
-ghost use Rattle.packed.specs.Form.{packedLength};
-ghost use Rattle.packed.specs.Check.{packedChecked};
+ghost use mathlib.Core.Bool.{not};
+ghost use Rattle.packed.specs.Form.{isPackedCount, packedLength};
+ghost use Rattle.packed.specs.Check.{packedChecked, packableChecked};
 ghost use Rattle.packed.specs.Calls.{packCall, unpackCall, packedFreshCall, packedMilkingCall, packedHeardCall, packedSettledCall, packedMeetingCall};
 use crate::pack::pack_image;
 use crate::plain::check_into;
@@ -18,7 +19,6 @@ use crate::unpack::plain_length;
 use crate::unpack::unpack_image;
 use image::Checked;
 use image::Head;
-use image::STALLS;
 use image::bytes::wide;
 
 mod copies;
@@ -27,14 +27,32 @@ mod pack;
 mod plain;
 mod unpack;
 
+// The most heads of a parlour whose tables can be packed, and the bytes of their plain image.
+const PACKED_LARGEST: u8 = 8;
+
+const PACKED_STALLS: usize = PACKED_LARGEST as usize;
+
+const UNPACKED: usize = 4 + 2 * PACKED_STALLS * PACKED_STALLS + 3 * PACKED_STALLS;
+
 // Lengths of packed images by the number of stalls.
-const PACKED_LENGTHS: [usize; STALLS + 1] = [0, 0, 14, 22, 32, 44, 58, 74, 92];
+const PACKED_LENGTHS: [usize; PACKED_STALLS + 1] = [0, 0, 14, 22, 32, 44, 58, 74, 92];
+
+// n is not that of a parlour whose tables can be packed.
+pub fn bad_packed_count(n: u8) -> bool
+    ensures { λ b. ⌜ b ≡ not (isPackedCount n) ⌝ }
+{
+    !((2 <= n) & (n <= PACKED_LARGEST))
+}
 
 // The length of a packed image of n stalls, 0 where n is not 2 to 8.
 pub fn packed_length_of(n: usize) -> usize
     ensures { λ r. ⌜ r ≡ packedLength n ⌝ }
 {
-    if n <= STALLS { PACKED_LENGTHS[n] } else { 0 }
+    if n <= PACKED_STALLS {
+        PACKED_LENGTHS[n]
+    } else {
+        0
+    }
 }
 
 // The check of a packed image: the first number that applies.
@@ -46,12 +64,25 @@ pub fn check(packed: &[u8]) -> Checked
     check_into(packed, &mut image[..count])
 }
 
+// The check of an image that is to be packed: the first number that applies.
+fn packable(image: &[u8]) -> Checked
+    ensures { λ r. ⌜ r ≡ packableChecked (now (image .entry)) ⌝ }
+{
+    if image.len() == 0 {
+        return Checked::Refused(1);
+    }
+    if bad_packed_count(image[0]) {
+        return Checked::Refused(1);
+    }
+    image::check(image)
+}
+
 // An image packed into a buffer.
 #[no_mangle]
 pub extern "C" fn wilbryn_pack(image: &[u8], packed: &mut [u8]) -> u32
     ensures { λ r. ⌜ _≡_ {A = Outcome} (record { answer = r; image = now (packed .exit) }) (packCall (now (image .entry)) (now (packed .entry))) ⌝ }
 {
-    let c = image::check(image);
+    let c = packable(image);
     let Checked::Good(h) = c else {
         return image::number_of(c);
     };
@@ -85,7 +116,7 @@ pub extern "C" fn wilbryn_unpack(packed: &[u8], image: &mut [u8]) -> u32
 pub extern "C" fn wilbryn_packed_fresh(packed: &mut [u8], n: u8, stall: u8) -> u32
     ensures { λ r. ⌜ _≡_ {A = Outcome} (record { answer = r; image = now (packed .exit) }) (packedFreshCall (now (packed .entry)) n stall) ⌝ }
 {
-    if image::bytes::bad_count(n) {
+    if bad_packed_count(n) {
         return 1;
     }
     let m = wide(n);

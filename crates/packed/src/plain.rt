@@ -1,26 +1,25 @@
 // The plain calls by way of the unpacked form, which stands in a lent run of the length that `plain_length` says.
 ghost use mathlib.Core.Path.{_≡_};
 ghost use lib.ListN.{length, getD};
-ghost use Rattle.image.specs.Layout.{longest};
 ghost use Rattle.image.specs.Frame.{Sized};
 ghost use Rattle.merge.specs.Call.{MeetingOutcome};
 ghost use Rattle.head.specs.Heard.{HeardOutcome};
 ghost use Rattle.head.specs.Settled.{Settled};
-ghost use Rattle.packed.specs.Form.{packedImageLength};
+ghost use Rattle.packed.specs.Form.{longestUnpacked, packedImageLength};
 ghost use Rattle.packed.specs.Check.{packedChecked};
 ghost use Rattle.packed.specs.Calls.{packedHeardCall, packedSettledCall, packedMeetingCall};
 ghost use Rattle.packed.specs.Bytes.{packedOf, plainOf};
+use crate::UNPACKED;
 use crate::pack::pack_image;
 use crate::unpack::unpack_into;
 use image::Checked;
-use image::LONGEST;
 use image::bytes::wide;
 
 // Room for an unpacked form. Its contract is what lending it asks.
-pub(crate) fn room() -> [u8; LONGEST]
-    ensures { λ r. ⌜ length r ≡ longest ⌝ }
+pub(crate) fn room() -> [u8; UNPACKED]
+    ensures { λ r. ⌜ length r ≡ longestUnpacked ⌝ }
 {
-    [0u8; LONGEST]
+    [0u8; UNPACKED]
 }
 
 // The check.

@@ -3,16 +3,16 @@ ghost use mathlib.Core.Path.{_≡_};
 ghost use Prim.Native.Nat.{_+_, _-_, _*_, _≤_};
 ghost use mathlib.Core.List.{_++_};
 ghost use lib.ListN.{length, take, drop, getD};
-ghost use Rattle.image.specs.Layout.{longest, yieldsPlace};
+ghost use Rattle.image.specs.Layout.{yieldsPlace};
 ghost use Rattle.image.specs.Frame.{Sized};
 ghost use Rattle.image.specs.Stalls.{each};
 ghost use Rattle.image.specs.Encode.{nameBytes};
-ghost use Rattle.packed.specs.Form.{packedImageLength, nameOf, unpackedRow, unpackedOf};
+ghost use Rattle.packed.specs.Form.{longestUnpacked, packedImageLength, nameOf, unpackedRow, unpackedOf};
 ghost use Rattle.packed.specs.Bytes.{plainOf};
+use crate::bad_packed_count;
 use crate::copies::copy;
 use crate::name_bytes::two_bytes;
 use crate::packed_length_of;
-use image::bytes::bad_count;
 use image::bytes::wide;
 use image::bytes::yields_place;
 use image::length_of;
@@ -69,13 +69,13 @@ pub(crate) fn unpack_image(packed: &[u8], image: &mut [u8], n: usize)
 
 // How many bytes are handed to the plain calls in the place of a packed image.
 pub(crate) fn plain_length(packed: &[u8]) -> usize
-    ensures { λ r. ⌜ (r ≡ length (plainOf (now (packed .entry)))) × (r ≤ longest) ⌝ }
+    ensures { λ r. ⌜ (r ≡ length (plainOf (now (packed .entry)))) × (r ≤ longestUnpacked) ⌝ }
 {
     if packed.len() == 0 {
         return 0;
     }
     let n = packed[0];
-    if bad_count(n) {
+    if bad_packed_count(n) {
         return 0;
     }
     if packed.len() != packed_length_of(wide(n)) {

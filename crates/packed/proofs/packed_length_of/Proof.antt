@@ -7,21 +7,20 @@ use borrow.Author.Tests.{le-leb, lt-leb}
 use borrow.Author.Needs.{needs}
 use lib.ListN.{getD}
 use Rattle.image.specs.Stalls.{some}
-use Rattle.image.specs.Layout.{largest}
 use Rattle.image.proofs.Tables.{table-rule}
-use Rattle.packed.specs.Form.{packedLength}
+use Rattle.packed.specs.Form.{largestPacked, packedLength}
 use Rattle.packed.proofs.packed_length_of.Statement.{statement}
 use Rattle.packed.proofs.packed_length_of.Tie as tie
 
 abbrev lengths : List ℕ
 lengths = 0 ∷ 0 ∷ 14 ∷ 22 ∷ 32 ∷ 44 ∷ 58 ∷ 74 ∷ 92 ∷ []
 
-rule : (k : ℕ) → k < suc largest → getD lengths k 0 ≡ packedLength k
+rule : (k : ℕ) → k < suc largestPacked → getD lengths k 0 ≡ packedLength k
 unfolding some
-rule = table-rule (suc largest) (λ k. getD lengths k 0) packedLength refl
+rule = table-rule (suc largestPacked) (λ k. getD lengths k 0) packedLength refl
 
-beyond : (n : ℕ) → largest < n → packedLength n ≡ 0
-beyond n l = rw (le-leb 2 n (omega arith), lt-leb n largest l)
+beyond : (n : ℕ) → largestPacked < n → packedLength n ≡ 0
+beyond n l = rw (le-leb 2 n (omega arith), lt-leb n largestPacked l)
 
 pub packed-length-of-spec : {M : Type 1} → statement M
 packed-length-of-spec =

@@ -4,7 +4,7 @@ use borrow.Author.Needs.{needs}
 use Rattle.image.specs.Check.{numberOf}
 use Rattle.image.specs.Layout.{lengthOf}
 use Rattle.packed.specs.Form.{packedImageLength, unpackedOf}
-use Rattle.packed.proofs.Checks.{good-packed}
+use Rattle.packed.proofs.Checks.{good-packed, good-unpacked}
 use Rattle.packed.proofs.Packing.{into-refused, into-short, into-done, plain-sized}
 use Rattle.packed.proofs.wilbryn_unpack.Statement.{statement}
 use Rattle.packed.proofs.wilbryn_unpack.Tie as tie
@@ -31,4 +31,4 @@ wilbryn-unpack-spec =
     let good = (sym (c .before .before .before .before .before .before .before .before .before .before .check .ensures) ∙ c .before .before .before .before .before .before .before .before .c .given .1) in
     let n = c .before .before .before .before .before .before .wide .ensures .0 in
     into-done _ _ lengthOf good (c .before .before .before .before .if1 .left ∙ c .before .before .before .before .before .length-of .ensures ∙ ap lengthOf n)
-    (c .before .before .unpack-image .ensures ∙ ap (λ k. unpackedOf k (start .args .packed .now)) (n ∙ sym (good-packed (start .args .packed .now) good .count)))))
+    (c .before .before .unpack-image .ensures ∙ ap (λ k. unpackedOf k (start .args .packed .now)) n ∙ good-unpacked (start .args .packed .now) good)))
