@@ -1,8 +1,8 @@
 -- The cases of document 01's "Meetings to try" that are marked P, as the requests change them.
-use Prim.Native.Nat.{ℕ, _+_, _-_, _^_}
+use Prim.Native.Nat.{ℕ, _+_, _-_, _/_, _%_, _^_}
 use mathlib.Core.Bool.{_||_, cond}
 use mathlib.Core.List.{List, [], _∷_, _++_}
-use lib.Dec.{eqb}
+use lib.Dec.{leb, eqb}
 use lib.ListN.{replicate}
 use Rattle.image.specs.Stalls.{each}
 use Rattle.image.specs.Examples.{notMilked, withLabel, nine-first, nine-second, listing}
@@ -31,13 +31,17 @@ module _ (n p q : ℕ) where
   abbrev pub ofTheTwo : List ℕ → List ℕ → List ℕ
   ofTheTwo this that = each n (λ r. cond (eqb r p || eqb r q) this that)
 
+  -- an order entry: request 2026-09: "From 9 up, an order byte becomes two bytes, high first"
+  abbrev pub entry : ℕ → List ℕ
+  entry x = cond (leb n 8) (x ∷ []) (x / 256 ∷ x % 256 ∷ [])
+
   -- the image of one of them
   abbrev pub metImage : ℕ → List ℕ
   metImage own =
       (n ∷ own ∷ notMilked 1)
       ++ ofTheTwo latests (replicate (n + n) 0)
       ++ notMilked n
-      ++ ofTheTwo ((2 ^ (p - 1) + 2 ^ (q - 1)) ∷ []) (0 ∷ [])
+      ++ ofTheTwo (entry (2 ^ (p - 1) + 2 ^ (q - 1))) (entry 0)
 
 -- label 0, both images, and verdicts all 0
 unfoldable pub firstMeetings : ℕ → List ℕ
@@ -61,6 +65,7 @@ table =
     ∷ (firsts 6 gives firstMeetings 6)
     ∷ (firsts 7 gives firstMeetings 7)
     ∷ (firsts 8 gives firstMeetings 8)
+    ∷ (firsts 9 gives firstMeetings 9)
     -- "document 003's example 2.4 .., then 3-5: 2, 2, 0, 2, 2." and "instead 1-2: 0, 2, 0, 2, 2."
     ∷ (verdicts 5 example-2-4 3 5 gives (2 ∷ 2 ∷ 0 ∷ 2 ∷ 2 ∷ []))
     ∷ (verdicts 5 example-2-4 1 2 gives (0 ∷ 2 ∷ 0 ∷ 2 ∷ 2 ∷ []))

@@ -4,7 +4,7 @@ use mathlib.Core.Path.{_≡_, refl}
 use mathlib.Core.List.{List, [], _∷_, _++_, map, flatMap, flatten}
 use lib.ListN.{length, replicate}
 use Rattle.image.specs.Fresh.{freshImage}
-use Rattle.image.specs.Encode.{wordBytes}
+use Rattle.image.specs.Encode.{wordBytes, orderBytes}
 use Rattle.image.specs.Stalls.{count}
 use Rattle.image.specs.Examples.{evaluated, notMilked, metOnce, listing}
 use Rattle.head.specs.Calls.{refused, milked, milkingCall}
@@ -27,7 +27,7 @@ milking-examples = (refl, refl)
 abbrev pub allHeard : List ℕ → List ℕ
 allHeard yields =
     let n = length yields in
-    (n ∷ 1 ∷ wordBytes 0) ++ flatten (replicate n (2 ∷ 0 ∷ flatten (replicate (n - 1) (1 ∷ 0 ∷ [])))) ++ flatMap wordBytes yields ++ replicate n (2 ^ n - 1)
+    (n ∷ 1 ∷ wordBytes 0) ++ flatten (replicate n (2 ∷ 0 ∷ flatten (replicate (n - 1) (1 ∷ 0 ∷ [])))) ++ flatMap wordBytes yields ++ flatten (replicate n (orderBytes n (2 ^ n - 1)))
 
 -- what the call answers, then the buffer, which holds 9 wherever nothing is written
 heardInto : List ℕ → ℕ → List ℕ
@@ -43,6 +43,12 @@ order-examples : (heardOf (18 ∷ 18 ∷ 18 ∷ []) ≡ 3 ∷ 1 ∷ 0 ∷ 18 ∷
     × (heardOf (1 ∷ 2 ∷ 3 ∷ 4 ∷ 5 ∷ 6 ∷ 7 ∷ 8 ∷ []) ≡ 8 ∷ 8 ∷ 0 ∷ 8 ∷ 7 ∷ 0 ∷ 7 ∷ 6 ∷ 0 ∷ 6 ∷ 5 ∷ 0 ∷ 5 ∷ 4 ∷ 0 ∷ 4 ∷ 3 ∷ 0 ∷ 3 ∷ 2 ∷ 0 ∷ 2 ∷ 1 ∷ 0 ∷ 1 ∷ [])
 unfolding evaluated heardEvaluated heardInto heardOf flatMap flatten
 order-examples = (refl, refl, refl, refl)
+
+-- nine stalls in reverse, and how many have heard of each
+nine-examples : (heardOf (1 ∷ 2 ∷ 3 ∷ 4 ∷ 5 ∷ 6 ∷ 7 ∷ 8 ∷ 9 ∷ []) ≡ 9 ∷ flatten (map (λ r. r ∷ 0 ∷ r ∷ []) (9 ∷ 8 ∷ 7 ∷ 6 ∷ 5 ∷ 4 ∷ 3 ∷ 2 ∷ 1 ∷ [])))
+    × (settledCall (allHeard (replicate 9 0)) (replicate 9 0) .counts ≡ replicate 9 9)
+unfolding evaluated heardEvaluated heardInto heardOf flatMap flatten count settledCounts settledFrom
+nine-examples = (refl, refl)
 
 -- an image for each number of a refusal, 6 to 1
 abbrev pub badImages : List (List ℕ)

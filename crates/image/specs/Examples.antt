@@ -1,12 +1,12 @@
 -- Document 01's examples for the numbers 1 to 6, as request 2026-01 changes them, the yields that it names, the labels that request 2026-02 names, the listing's
--- image, and lanes of words, by evaluation.
-use Prim.Native.Nat.{ℕ, suc, _+_, _*_}
+-- image, the sizes of request 2026-09, and lanes of words, by evaluation.
+use Prim.Native.Nat.{ℕ, suc, _+_, _-_, _*_}
 use mathlib.Core.Path.{_≡_, refl}
 use mathlib.Core.List.{List, [], _∷_, _++_, map}
 use lib.ListN.{replicate}
 use Rattle.image.specs.Stalls.{some, each, bits, has}
 use Rattle.image.specs.Lanes.{lanes, lane, pairs}
-use Rattle.image.specs.Layout.{noYield, isYield, labelLimit, orderWidth, numberAt, orderFrom, markAt, nameFrom, nameAt, heardAt}
+use Rattle.image.specs.Layout.{lengthOf, noYield, isYield, labelLimit, orderWidth, numberAt, orderFrom, markAt, nameFrom, nameAt, heardAt}
 use Rattle.image.specs.Check.{badCount, badLength, badYields, badDiagonal, badUnheard, badRow, badNames, badOrder, badMarks, checkBody, checked, numberOf}
 use Rattle.image.specs.Encode.{nothing, wordBytes, numberBytes, orderBytes, encode, tableOf}
 use Rattle.image.specs.Fresh.{freshImage, freshTable}
@@ -105,6 +105,50 @@ listing =
 listing-is-encoded : (number listing ≡ 0) × (encode 3 3 (tableOf listing 3) ≡ listing)
 unfolding evaluated number
 listing-is-encoded = (refl, refl)
+
+-- Request 2026-09: "N may be 2 to 16. From 9 up, an order byte becomes two bytes, high first, and the length 2 × N × N + 4 × N + 4, which is 580 for 16"
+size-examples : (map lengthOf (2 ∷ 3 ∷ 4 ∷ 5 ∷ 6 ∷ 7 ∷ 8 ∷ []) ≡ 18 ∷ 31 ∷ 48 ∷ 69 ∷ 94 ∷ 123 ∷ 156 ∷ [])
+    × (map lengthOf (9 ∷ 10 ∷ 11 ∷ 12 ∷ 13 ∷ 14 ∷ 15 ∷ 16 ∷ []) ≡ 202 ∷ 244 ∷ 290 ∷ 340 ∷ 394 ∷ 452 ∷ 514 ∷ 580 ∷ [])
+    × (map (λ n. orderBytes n 0x81) (8 ∷ 9 ∷ []) ≡ (0x81 ∷ []) ∷ (0x00 ∷ 0x81 ∷ []) ∷ [])
+    × (orderBytes 16 0x8102 ≡ 0x81 ∷ 0x02 ∷ [])
+    × (orderFrom (0x81 ∷ 0x02 ∷ []) 16 0 ≡ 0x8102)
+    × (freshImage 9 9 ≡ (9 ∷ 9 ∷ notMilked 1) ++ replicate 162 0 ++ notMilked 9 ++ replicate 18 0)
+unfolding evaluated
+size-examples = (refl, refl, refl, refl, refl, refl)
+
+-- head 1 of n, which has met head 2 with a label, and the order entry of stall 1
+abbrev pub metFirst : ℕ → ℕ → List ℕ → List ℕ
+metFirst n k entry =
+    let row : List ℕ = (2 ∷ k ∷ 1 ∷ k ∷ []) ++ replicate (n * 2 - 4) 0 in
+    (n ∷ 1 ∷ wordBytes 0)
+    ++ row
+    ++ row
+    ++ replicate ((n - 2) * (n * 2)) 0
+    ++ wordBytes 0
+    ++ wordBytes 0
+    ++ notMilked (n - 2)
+    ++ entry
+    ++ orderBytes n 3
+    ++ replicate ((n - 2) * orderWidth n) 0
+
+-- "Check 1 moves to 16": 17 is 1. 9 heads with the length of the rule up to 8, and 8 with that of the rule from 9 up, are 2; fresh images pass.
+count-examples : map number
+    ((17 ∷ [])
+    ∷ (9 ∷ 1 ∷ replicate 191 0)
+    ∷ (8 ∷ 1 ∷ replicate 162 0)
+    ∷ freshImage 9 1
+    ∷ freshImage 16 16
+    ∷ [])
+    ≡ 1 ∷ 2 ∷ 2 ∷ 0 ∷ 0 ∷ []
+unfolding evaluated number
+count-examples = refl
+
+-- order entries of 9: high byte first; low byte first they mark other stalls, 6, as do a stall never heard and one above N. Labels end at 34 of 9, and at 62 of 16.
+sixteen-examples : (map (λ entry. number (metFirst 9 0 entry)) ((0 ∷ 3 ∷ []) ∷ (3 ∷ 0 ∷ []) ∷ (1 ∷ 3 ∷ []) ∷ (2 ∷ 3 ∷ []) ∷ []) ≡ 0 ∷ 6 ∷ 6 ∷ 6 ∷ [])
+    × (map (λ k. number (metFirst 9 k (0 ∷ 3 ∷ []))) (34 ∷ 35 ∷ []) ≡ 0 ∷ 5 ∷ [])
+    × (map (λ k. number (metFirst 16 k (0 ∷ 3 ∷ []))) (62 ∷ 63 ∷ []) ≡ 0 ∷ 5 ∷ [])
+unfolding evaluated number
+sixteen-examples = (refl, refl, refl)
 
 -- lanes of a word, the first the lowest: the numbers 1 to 8 in bytes, one of four numbers of 16 bits, and the columns 5 to 8 at the partner bytes of four names
 lane-examples : (lanes 8 8 suc ≡ 0x0807060504030201) × (lane 16 0x0004000300020001 2 ≡ 3) × (pairs (λ j. 4 + suc j) (λ j. 0) ≡ 0x0008000700060005)

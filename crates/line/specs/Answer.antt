@@ -32,7 +32,7 @@ module _ (state : List ℕ) where
   abbrev pub refusal : ℕ → Reply
   refusal number = record { bytes = number ∷ []; state = state }
 
-  -- 1: N not 2 to 8
+  -- 1: N not 2 to 16
   unfoldable pub opening : ℕ → Reply
   opening n = cond (isCount n) (record { bytes = 0 ∷ []; state = freshState n }) (refusal 1)
 

@@ -1,5 +1,5 @@
 -- The state between lines: a parlour, or none yet.
--- Document 01: "A parlour has N heads, N from 2 to 8, one at each stall 1 to N."
+-- Document 01: "A parlour has N heads .. one at each stall 1 to N."; request 2026-09: "N may be 2 to 16."
 -- Byte 0 is N; a slot for each stall of the largest parlour follows, as long as its image, and begins with the image of its head.
 use Prim.Native.Nat.{ℕ, _+_, _-_, _*_}
 use mathlib.Core.Bool.{Bool, cond}

@@ -3,7 +3,7 @@
 pub mod Small
 mod Names
 mod Rows
-mod Sizes
+pub mod Sizes
 mod Forms
 mod Unpacked
 mod Checks

@@ -46,7 +46,7 @@ listingText =
     ∷ []
 
 -- from its image, and packed
-listing-examples : (panelInto listing 128 ≡ 20 ∷ listingText ++ replicate 108 0) × (after (packedPanelCall packedListing (replicate 128 9)) ≡ 20 ∷ listingText ++ replicate 108 0)
+listing-examples : (panelInto listing 256 ≡ 20 ∷ listingText ++ replicate 236 0) × (after (packedPanelCall packedListing (replicate 256 9)) ≡ 20 ∷ listingText ++ replicate 236 0)
 unfolding evaluated heardEvaluated panelEvaluated after panelInto
 listing-examples = (refl, refl)
 
@@ -60,7 +60,7 @@ fiveText =
     ∷ 0x35 ∷ 0x20 ∷ 0x35 ∷ 0x20 ∷ 0x2d ∷ 0x0a
     ∷ []
 
-five-examples : panelInto (allHeard (18 ∷ 999 ∷ 0 ∷ 18 ∷ 0xffff ∷ [])) 128 ≡ 39 ∷ fiveText ++ replicate 89 0
+five-examples : panelInto (allHeard (18 ∷ 999 ∷ 0 ∷ 18 ∷ 0xffff ∷ [])) 256 ≡ 39 ∷ fiveText ++ replicate 217 0
 unfolding evaluated heardEvaluated panelEvaluated after panelInto fiveText flatMap flatten
 five-examples = refl
 
@@ -72,16 +72,17 @@ read-examples : (readRanks fiveText ≡ 1 ∷ 2 ∷ 3 ∷ 4 ∷ 5 ∷ []) × (re
 unfolding evaluated panelEvaluated fiveText recorded
 read-examples = (refl, refl)
 
--- a head that has heard nobody; one that has not heard of stall 3: "1 1 0.0", "2 2 -"; the longest text of eight stalls
-heard-examples : (panelInto (freshImage 3 2) 128 ≡ 0 ∷ replicate 128 0)
-    × (panelInto (metOnce 0 0 0xffff 0xffff) 128
-    ≡ 14 ∷ (0x31 ∷ 0x20 ∷ 0x31 ∷ 0x20 ∷ 0x30 ∷ 0x2e ∷ 0x30 ∷ 0x0a ∷ 0x32 ∷ 0x20 ∷ 0x32 ∷ 0x20 ∷ 0x2d ∷ 0x0a ∷ []) ++ replicate 114 0)
-    × (panelCall (allHeard (replicate 8 999)) (replicate 128 9) .answer ≡ 72)
+-- a head that has heard nobody; one that has not heard of stall 3: "1 1 0.0", "2 2 -"; the longest texts of eight and of sixteen stalls
+heard-examples : (panelInto (freshImage 3 2) 256 ≡ 0 ∷ replicate 256 0)
+    × (panelInto (metOnce 0 0 0xffff 0xffff) 256
+    ≡ 14 ∷ (0x31 ∷ 0x20 ∷ 0x31 ∷ 0x20 ∷ 0x30 ∷ 0x2e ∷ 0x30 ∷ 0x0a ∷ 0x32 ∷ 0x20 ∷ 0x32 ∷ 0x20 ∷ 0x2d ∷ 0x0a ∷ []) ++ replicate 242 0)
+    × (panelCall (allHeard (replicate 8 999)) (replicate 256 9) .answer ≡ 72)
+    × (panelCall (allHeard (replicate 16 999)) (replicate 256 9) .answer ≡ 158)
 unfolding evaluated heardEvaluated panelEvaluated after panelInto flatMap flatten
-heard-examples = (refl, refl, refl)
+heard-examples = (refl, refl, refl, refl)
 
 -- 264 for a buffer of another length, and 262 to 257 before it; packed, 258 for the length of a plain image
-refused-examples : (map (panelInto listing) (0 ∷ 127 ∷ 129 ∷ []) ≡ (264 ∷ []) ∷ (264 ∷ replicate 127 9) ∷ (264 ∷ replicate 129 9) ∷ [])
+refused-examples : (map (panelInto listing) (0 ∷ 128 ∷ 255 ∷ 257 ∷ []) ≡ (264 ∷ []) ∷ (264 ∷ replicate 128 9) ∷ (264 ∷ replicate 255 9) ∷ (264 ∷ replicate 257 9) ∷ [])
     × (map (λ s. panelInto s 1) badImages ≡ (262 ∷ 9 ∷ []) ∷ (261 ∷ 9 ∷ []) ∷ (260 ∷ 9 ∷ []) ∷ (259 ∷ 9 ∷ []) ∷ (258 ∷ 9 ∷ []) ∷ (257 ∷ 9 ∷ []) ∷ [])
     × (after (packedPanelCall listing (9 ∷ [])) ≡ 258 ∷ 9 ∷ [])
 unfolding evaluated heardEvaluated panelEvaluated after panelInto

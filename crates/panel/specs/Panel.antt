@@ -1,6 +1,7 @@
 -- The wall panel.
 -- Request 2026-08: "From one head's image it writes eight text lines at most into a lent buffer of 128 bytes: rank, stall, yield in litres with one decimal (18
 -- becomes `1.8`), or `-` for not milked, single blanks between, newline after each, numbers without leading zeros (0 becomes `0.0`)."
+-- Request 2026-09: "The panel writes sixteen lines at most, and its buffer becomes 256 bytes for every N."
 use Prim.Native.Nat.{ℕ, suc, _+_, _-_, _/_, _%_}
 use mathlib.Core.Bool.{not, cond}
 use mathlib.Core.List.{List, [], _∷_, _++_}
@@ -51,9 +52,9 @@ panelText s n own = lines (heardRecords s n own)
 
 -- The call
 
--- "a lent buffer of 128 bytes"
+-- "its buffer becomes 256 bytes for every N"
 unfoldable pub panelLength : ℕ
-panelLength = 128
+panelLength = 256
 
 -- the answer, and the buffer afterwards
 pub record PanelOutcome : Type 0 where

@@ -22,13 +22,13 @@ use Rattle.parlour.proofs.Images.{table-says}
 use Rattle.parlour.proofs.Kept.{Kept, kept-says, kept-current}
 use Rattle.parlour.proofs.Runs.{run-kept}
 use Rattle.storage.specs.Run.{PackedRun, unpackedImages}
-use Rattle.storage.proofs.Unpacking.{unpacked-run}
+use Rattle.storage.proofs.Unpacking.{few-heads, unpacked-run}
 use Rattle.storage.proofs.SameCalls.{same-items}
 
 -- bytes only
 small-run : {n : ℕ} {calls : List Called} {images : Images} → PackedRun n calls images → (p : ℕ) → 1 ≤ p → p ≤ n → Small (images p)
 small-run {n} (start i j buffers images calls) p k l =
-    subst Small (sym (fresh-zero (buffers p) n p (images p) (calls p k l .learnt))) (small-packed-image n p nothing j l (nothing-made n p))
+    subst Small (sym (fresh-zero (buffers p) n p (images p) (calls p k l .learnt))) (small-packed-image n p nothing (few-heads (start i j buffers images calls)) l (nothing-made n p))
 small-run (milk {images = images} run stall y answer image i j call) p k l =
     put-each (λ r s. Small s) images stall p
     (subst Small (sym (ap (λ o. o .image) (call .learnt))) (small-milking (images stall) y (small-run run stall i j))) (λ f. small-run run p k l)
@@ -61,4 +61,4 @@ module _ {n : ℕ} {calls : List Called} {images : Images} (run : PackedRun n ca
   unfolding imageAfter
   bytes p i j =
       let t = tableAfter n (history n (items calls)) p in
-      sym (exact p i j) ∙ ap packed (kept .is p i j) ∙ packed-image n p t (kept .n-to) j (table-made kept p i j) (kept .n-from) i
+      sym (exact p i j) ∙ ap packed (kept .is p i j) ∙ packed-image n p t (few-heads run) j (table-made kept p i j) (kept .n-from) i

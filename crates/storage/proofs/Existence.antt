@@ -3,20 +3,20 @@ use Prim.Native.Nat.{ℕ, _≤_}
 use mathlib.Core.Path.{refl}
 use mathlib.Core.List.{List, []}
 use lib.ListN.{replicate, length-replicate}
-use Rattle.image.specs.Layout.{largest}
 use Rattle.image.specs.Encode.{nothing}
-use Rattle.packed.specs.Form.{packedLength, packedImage}
+use Rattle.packed.specs.Form.{largestPacked, packedLength, packedImage}
 use Rattle.packed.specs.Calls.{packedMilkingCall, packedMeetingCall}
+use Rattle.packed.proofs.Sizes.{packed-few}
 use Rattle.packed.proofs.FreshPacked.{fresh-taken}
 use Rattle.parlour.specs.Item.{Item}
 use Rattle.parlour.specs.Theory.{Items, RunOf}
 use Rattle.parlour.proofs.Existence.{some-loan, runs-by}
 use Rattle.storage.specs.Run.{packedCalls}
 
-pub runs-exist : (n : ℕ) → 2 ≤ n → n ≤ largest → (list : List Item) → Items n list → RunOf packedCalls n list
+pub runs-exist : (n : ℕ) → 2 ≤ n → n ≤ largestPacked → (list : List Item) → Items n list → RunOf packedCalls n list
 runs-exist n i j =
     let buffer : List ℕ = replicate (packedLength n) 0 in
-    runs-by i j (record {
+    runs-by i (packed-few j) (record {
       buffers = λ p. buffer;
       images = λ p. packedImage n p nothing;
       fresh = λ p k l. record { lifetimes = ([], tt); loan = some-loan; learnt = fresh-taken buffer n p i j (length-replicate {A = ℕ} (packedLength n) 0) k l };

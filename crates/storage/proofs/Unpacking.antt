@@ -3,13 +3,15 @@ use Prim.Native.Nat.{ℕ, _≤_}
 use mathlib.Core.Path.{_≡_, refl, sym, ap, ap₂, subst, fun-ext, _∙_}
 use mathlib.Core.Bool.{Bool, true, false, cond}
 use mathlib.Core.List.{List, [], _∷_}
+use native.Mathlib.Omega.{arith}
+use native.Mathlib.Decide.{decLe}
 use lib.Dec.{eqb}
 use lib.ListN.{replicate}
 use Rattle.image.specs.Layout.{largest, lengthOf}
 use Rattle.merge.specs.Call.{MeetingOutcome}
 use Rattle.head.specs.Calls.{Outcome}
-use Rattle.packed.specs.Form.{unpacked}
-use Rattle.packed.proofs.FreshPacked.{packed-fresh, fresh-zero}
+use Rattle.packed.specs.Form.{largestPacked, unpacked}
+use Rattle.packed.proofs.FreshPacked.{packed-fresh, fresh-over, fresh-zero}
 use Rattle.packed.proofs.MilkedPacked.{milking-same}
 use Rattle.packed.proofs.MetPacked.{meeting-same}
 use Rattle.parlour.specs.Item.{milking, meeting}
@@ -20,10 +22,17 @@ use Rattle.storage.specs.Run.{packedCalls, PackedRun, unpackedImages, un
 
 -- Single calls
 
+-- whose fresh table was packed has a parlour of few heads
+few-fresh : {buffer image : List ℕ} {n p : ℕ} → packedCalls .fresh buffer n p 0 image → n ≤ largestPacked
+few-fresh {buffer} {image} {n} {p} call = elim (decLe n largestPacked) [
+  | yes l ↦ l
+  | no l ↦ absurd (omega (arith, ap (λ o. o .answer) (call .learnt ∙ fresh-over buffer n p (omega arith))))
+]
+
 plain-fresh : {buffer image : List ℕ} {n p : ℕ} → 2 ≤ n → n ≤ largest → 1 ≤ p → p ≤ n → packedCalls .fresh buffer n p 0 image
     → FreshCall (replicate (lengthOf n) 0) n p 0 (unpacked image)
 plain-fresh {buffer} {image} {n} {p} i j k l call =
-    let is = ap unpacked (fresh-zero buffer n p image (call .learnt)) ∙ packed-fresh n p i j k l .0 in
+    let is = ap unpacked (fresh-zero buffer n p image (call .learnt)) ∙ packed-fresh n p i (few-fresh call) k l .0 in
     subst (FreshCall (replicate (lengthOf n) 0) n p 0) (sym is) (fresh-call n p i j k l)
 
 plain-milking : {s image : List ℕ} {yield answer : ℕ} → packedCalls .milking s yield answer image → MilkingCall (unpacked s) yield answer (unpacked image)
@@ -46,6 +55,11 @@ plain-meeting {s} {u} {buffer} call =
     }
 
 -- The list
+
+pub few-heads : {n : ℕ} {calls : List Called} {images : Images} → PackedRun n calls images → n ≤ largestPacked
+few-heads (start i j buffers images calls) = few-fresh (calls 1 (omega arith) (omega arith))
+few-heads (milk run stall y answer image i j call) = few-heads run
+few-heads (meet run p q answer buffer first second verdicts i j k l differ call) = few-heads run
 
 put-unpacked : (images : Images) (stall : ℕ) (image : List ℕ) → put (unpackedImages images) stall (unpacked image) ≡ unpackedImages (put images stall image)
 unfolding put

@@ -3,12 +3,11 @@
 use Prim.Native.Nat.{ℕ, _≤_}
 use mathlib.Core.Path.{_≡_}
 use mathlib.Core.List.{List}
-use Rattle.image.specs.Layout.{largest}
 use Rattle.packed.proofs.wilbryn_packed_fresh.Statement as fresh
 use Rattle.packed.proofs.wilbryn_packed_milking.Statement as milked
 use Rattle.packed.proofs.wilbryn_packed_meeting.Statement as met
 use Rattle.packed.proofs.wilbryn_packed_settled.Statement as settled
-use Rattle.packed.specs.Form.{packed}
+use Rattle.packed.specs.Form.{largestPacked, packed}
 use Rattle.parlour.specs.Item.{Item}
 use Rattle.parlour.specs.Run.{Images, Called, Run}
 use Rattle.parlour.specs.Claim.{items}
@@ -31,8 +30,9 @@ pub record Theory (n : ℕ) : Type 0 where
   pub claim : (calls : List Called) (images : Images) → PackedRun n calls images → PackedClaim n calls images
   -- Demand 2.
   pub verdicts-are-best : (calls : List Called) (images : Images) → PackedRun n calls images → VerdictsAreBest n calls
-  -- Every list has its calls.
-  pub runs-exist : 2 ≤ n → n ≤ largest → (list : List Item) → Items n list → RunOf packedCalls n list
+  -- Every list has its calls, in every parlour whose tables can be packed, and no other parlour has any: request 2026-09: "a packed table over 8 is still number 1".
+  pub few-heads : (calls : List Called) (images : Images) → PackedRun n calls images → n ≤ largestPacked
+  pub runs-exist : 2 ≤ n → n ≤ largestPacked → (list : List Item) → Items n list → RunOf packedCalls n list
   -- Request 2026-03, "Which head was named first", of packed tables: either end of the cable, neighbours that trade places, each head's own order.
   pub traced : Traces.Theory packedCalls n
   -- Request 2026-05, "Who has heard it all", of packed tables: the numbers are those of the history, and where one is N, every head has that meeting or a newer one ever after.
