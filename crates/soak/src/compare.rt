@@ -95,7 +95,7 @@ fn of_heads(history: &[u16], images: &[u8], n: u16) -> Difference {
     Difference::Nothing
 }
 
-// That of the heads that an item names: the images of the others were not lent.
+// That of the heads that an item names alone, to save time: the images of the others were not lent.
 fn of_named(history: &[u16], images: &[u8], n: u16, item: Item) -> Difference {
     match item {
         Item::Milking { stall, given: _ } => of_head(history, images, n, stall),
@@ -151,7 +151,7 @@ fn is_ambiguous(history: &[u16], n: u16) -> bool {
     false
 }
 
-// All heads are looked at after a list's last item.
+// After an item the heads that it names are looked at, after a list's last item all.
 pub fn compare(
     history: &[u16],
     images: &[u8],

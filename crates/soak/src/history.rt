@@ -14,13 +14,13 @@ use crate::words::put_byte;
 
 const HEADS: usize = 0;
 
-const MEETINGS: usize = 2 * (STALLS + 1);
+const MEETINGS: usize = HEADS + 2 * (STALLS + 1);
 
 const PASTS: usize = MEETINGS + OF_MEETING * PLACES;
 
 pub const WORDS: usize = PASTS + PLACES * PLACES;
 
-// Place 0 is none.
+// The places of the longest list, and 0.
 const PLACES: usize = ITEMS as usize;
 
 // The words of a meeting. Those from 1 on are the newest meetings of the stalls in its past.

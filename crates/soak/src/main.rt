@@ -1,8 +1,9 @@
 // Long pseudo-random lists of milkings and meetings for every size of a parlour, through the calls of
 // a head and through a history program written from document 01 and its requests alone. Prints for
-// each size how many items there were, how many of them counted or were refused, how many records of
-// heard lists stood elsewhere than at their stall's number, how many numbers of what is settled were n,
-// how many characters the panels had that were looked at, and how many lists differed.
+// each size how many items there were, and how many of them counted or were refused; then, of the head
+// that each item names, how many records of its heard list stood elsewhere than at their stall's number,
+// how many of its numbers of what is settled were n, and how many characters its panel had; then how many
+// lists differed.
 mod calls;
 mod compare;
 mod heard;
@@ -22,7 +23,8 @@ use report::say_number;
 use sizes::ITEMS;
 use sizes::MOST;
 
-const LISTS: u16 = 300;
+// The lists of each size.
+const LISTS: u16 = 120;
 
 // What the lists of one size came to.
 struct Tally {
@@ -173,7 +175,7 @@ fn say_tally(n: u16, tally: Tally) {
     say(b" differences\n");
 }
 
-// The sizes from 2 up.
+// Every size from 2 to the most.
 fn run_sizes(history: &mut [u16], images: &mut [u8], most: u16) {
     let mut random = 20260701u64;
     let mut n = 1u16;
