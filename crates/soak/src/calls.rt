@@ -1,59 +1,50 @@
 // The calls of a head, as a list makes them: each is lent the images as the calls before left them.
-// The images of a parlour stand in one run, 156 bytes a stall.
+// The images of a parlour stand in one run, each in room for the longest.
 ghost use mathlib.Core.Path.{_≡_};
 ghost use lib.ListN.{length};
+use crate::sizes::LONGEST;
+use crate::sizes::STALLS;
+use crate::sizes::image_length;
 use crate::words::fitting;
 use crate::words::get_byte;
 use crate::words::put_byte;
 
-// 9 * 156: stall 0 is unused.
-pub const BYTES: usize = 1404;
+// Stall 0 is unused.
+pub const BYTES: usize = (STALLS + 1) * LONGEST;
 // What stands in bytes that nothing has written yet.
 pub const UNWRITTEN: u8 = 238;
 
 // Room for an image. Its contract is what lending it asks.
-pub fn room() -> [u8; 156]
-    ensures { λ r. ⌜ 156 ≡ length r ⌝ }
+pub fn room() -> [u8; LONGEST]
+    ensures { λ r. do ⌜ (← ⟦LONGEST⟧ .entry) ≡ length r ⌝ }
 {
-    [UNWRITTEN; 156]
-}
-
-fn image_length(n: u16) -> usize {
-    match n {
-        2 => 18,
-        3 => 31,
-        4 => 48,
-        5 => 69,
-        6 => 94,
-        7 => 123,
-        _ => 156,
-    }
+    [UNWRITTEN; LONGEST]
 }
 
 fn load(images: &[u8], stall: u16, image: &mut [u8]) {
-    let base = 156 * (stall as usize);
-    let mut i = 0usize;
-    while i < 156 {
+    let base = LONGEST * (stall as usize);
+    let mut i = LONGEST;
+    while 0 < i {
+        i -= 1;
         put_byte(image, i, get_byte(images, base + i));
-        i += 1;
     }
 }
 
 // A head's image as the calls before left it.
-pub fn image_of(images: &[u8], stall: u16) -> [u8; 156]
-    ensures { λ r. ⌜ 156 ≡ length r ⌝ }
+pub fn image_of(images: &[u8], stall: u16) -> [u8; LONGEST]
+    ensures { λ r. do ⌜ (← ⟦LONGEST⟧ .entry) ≡ length r ⌝ }
 {
     let mut image = room();
     load(images, stall, &mut image);
     image
 }
 
-fn save(image: &[u8; 156], stall: u16, images: &mut [u8]) {
-    let base = 156 * (stall as usize);
-    let mut i = 0usize;
-    while i < 156 {
+fn save(image: &[u8; LONGEST], stall: u16, images: &mut [u8]) {
+    let base = LONGEST * (stall as usize);
+    let mut i = LONGEST;
+    while 0 < i {
+        i -= 1;
         put_byte(images, base + i, image[i]);
-        i += 1;
     }
 }
 

@@ -6,14 +6,15 @@ use crate::history::Named;
 use crate::random;
 use crate::random::Item;
 use crate::settled;
+use crate::sizes::ROOM;
 use crate::table;
 use crate::text;
 use crate::words::same;
 
-// What an item leaves besides the images. The buffer is the start of the 16 bytes.
+// What an item leaves besides the images. The buffer is the start of the verdicts.
 pub struct Outcome {
     pub answer: u32,
-    pub verdicts: [u8; 16],
+    pub verdicts: [u8; ROOM],
 }
 
 pub enum Difference {
@@ -28,7 +29,7 @@ pub enum Difference {
 }
 
 pub fn wanted(history: &mut [u16], n: u16, item: Item) -> Outcome {
-    let mut verdicts = [calls::UNWRITTEN; 16];
+    let mut verdicts = [calls::UNWRITTEN; ROOM];
     let answer = match item {
         Item::Milking { stall, given } => history::milking(history, stall, given),
         Item::Meeting {
@@ -41,7 +42,7 @@ pub fn wanted(history: &mut [u16], n: u16, item: Item) -> Outcome {
 }
 
 pub fn done(images: &mut [u8], n: u16, item: Item) -> Outcome {
-    let mut verdicts = [calls::UNWRITTEN; 16];
+    let mut verdicts = [calls::UNWRITTEN; ROOM];
     let answer = match item {
         Item::Milking { stall, given } => calls::milking(images, n, stall, given),
         Item::Meeting {
@@ -94,8 +95,25 @@ fn of_heads(history: &[u16], images: &[u8], n: u16) -> Difference {
     Difference::Nothing
 }
 
-// The panel of one head an item, to save time: those of other heads are as they were, and after a meeting
-// both have the same text.
+// That of the heads that an item names alone, to save time: the images of the others were not lent.
+fn of_named(history: &[u16], images: &[u8], n: u16, item: Item) -> Difference {
+    match item {
+        Item::Milking { stall, given: _ } => of_head(history, images, n, stall),
+        Item::Meeting {
+            first,
+            second,
+            buffer: _,
+        } => {
+            let difference = of_head(history, images, n, first);
+            if !is_none(difference) {
+                return difference;
+            }
+            of_head(history, images, n, second)
+        }
+    }
+}
+
+// The panel of one head an item, to save time: after a meeting both have the same text.
 fn of_panel(history: &[u16], images: &[u8], n: u16, item: Item) -> Difference {
     let head = random::head_of(item);
     let image = calls::image_of(images, head);
@@ -133,11 +151,13 @@ fn is_ambiguous(history: &[u16], n: u16) -> bool {
     false
 }
 
+// After an item the heads that it names are looked at, after a list's last item all.
 pub fn compare(
     history: &[u16],
     images: &[u8],
     n: u16,
     item: Item,
+    is_last: bool,
     wanted: Outcome,
     got: Outcome,
 ) -> Difference {
@@ -149,7 +169,11 @@ pub fn compare(
     if !same(&wanted_verdicts, &verdicts) {
         return Difference::Verdicts;
     }
-    let difference = of_heads(history, images, n);
+    let difference = if is_last {
+        of_heads(history, images, n)
+    } else {
+        of_named(history, images, n, item)
+    };
     if !is_none(difference) {
         return difference;
     }

@@ -2,8 +2,11 @@
 // looks at no image and no answer. A meeting is its place in the history, from 1; 0 is none. Whose
 // news is newer is read from places and pasts; labels decide nothing here.
 //
-// It is one run of words: the number of meetings and what each head has, then 16 words for each
+// It is one run of words: the number of meetings and what each head has, then the words of each
 // meeting, then for each meeting and each place whether that place lies in its past.
+use crate::sizes::ITEMS;
+use crate::sizes::MOST;
+use crate::sizes::STALLS;
 use crate::words::clear;
 use crate::words::get;
 use crate::words::put;
@@ -11,22 +14,27 @@ use crate::words::put_byte;
 
 const HEADS: usize = 0;
 
-const MEETINGS: usize = 32;
+const MEETINGS: usize = HEADS + 2 * (STALLS + 1);
 
-const PASTS: usize = 8224;
-// 32 + 512 * 16 + 512 * 512
-pub const WORDS: usize = 270368;
+const PASTS: usize = MEETINGS + OF_MEETING * PLACES;
 
-// The words of a meeting. Words 1 to 8 are the newest meetings of stalls 1 to 8 in its past.
-const LABEL: u16 = 9;
+pub const WORDS: usize = PASTS + PLACES * PLACES;
 
-const FIRST: u16 = 10;
+// The places of the longest list, and 0.
+const PLACES: usize = ITEMS as usize;
 
-const SECOND: u16 = 11;
+// The words of a meeting. Those from 1 on are the newest meetings of the stalls in its past.
+const LABEL: u16 = MOST + 1;
 
-const FIRST_YIELD: u16 = 12;
+const FIRST: u16 = MOST + 2;
 
-const SECOND_YIELD: u16 = 13;
+const SECOND: u16 = MOST + 3;
+
+const FIRST_YIELD: u16 = MOST + 4;
+
+const SECOND_YIELD: u16 = MOST + 5;
+
+const OF_MEETING: usize = STALLS + 6;
 
 // The words of a head.
 const LAST: u16 = 0;
@@ -48,20 +56,20 @@ fn head_at(head: u16, word: u16) -> usize {
 }
 
 fn meeting_at(place: u16, word: u16) -> usize {
-    MEETINGS + 16 * (place as usize) + (word as usize)
+    MEETINGS + OF_MEETING * (place as usize) + (word as usize)
 }
 
 fn past_at(of: u16, place: u16) -> usize {
-    PASTS + 512 * (of as usize) + (place as usize)
+    PASTS + PLACES * (of as usize) + (place as usize)
 }
 
 // No meeting, and no head was milked.
 pub fn open(history: &mut [u16]) {
     clear(history);
-    let mut head = 0u16;
-    while head < 8 {
-        head += 1;
+    let mut head = MOST;
+    while 0 < head {
         put(history, head_at(head, CURRENT), NOT_MILKED);
+        head -= 1;
     }
 }
 

@@ -1,8 +1,9 @@
 // Long pseudo-random lists of milkings and meetings for every size of a parlour, through the calls of
 // a head and through a history program written from document 01 and its requests alone. Prints for
-// each size how many items there were, how many of them counted or were refused, how many records of
-// heard lists stood elsewhere than at their stall's number, how many numbers of what is settled were n,
-// how many characters the panels had that were looked at, and how many lists differed.
+// each size how many items there were, and how many of them counted or were refused; then, of the head
+// that each item names, how many records of its heard list stood elsewhere than at their stall's number,
+// how many of its numbers of what is settled were n, and how many characters its panel had; then how many
+// lists differed.
 mod calls;
 mod compare;
 mod heard;
@@ -10,6 +11,7 @@ mod history;
 mod random;
 mod report;
 mod settled;
+mod sizes;
 mod table;
 mod text;
 mod words;
@@ -18,8 +20,11 @@ use compare::Difference;
 use random::Item;
 use report::say;
 use report::say_number;
+use sizes::ITEMS;
+use sizes::MOST;
 
-const LISTS: u16 = 300;
+// The lists of each size.
+const LISTS: u16 = 120;
 
 // What the lists of one size came to.
 struct Tally {
@@ -39,24 +44,20 @@ fn more(count: u64) -> u64 {
     std::num::wrapping_add_u64(count, 1)
 }
 
-// What the heads say of what they have heard.
-fn counted(history: &[u16], n: u16, tally: Tally) -> Tally {
+// What the head that an item names says of what it has heard.
+fn counted(history: &[u16], n: u16, head: u16, tally: Tally) -> Tally {
     let mut tally = tally;
-    let mut head = 0u16;
-    while head < n {
-        head += 1;
-        let moved = heard::moved_of(history, n, head);
-        let settled = settled::settled_of(history, n, head);
-        tally.moved = std::num::wrapping_add_u64(tally.moved, moved);
-        tally.settled = std::num::wrapping_add_u64(tally.settled, settled);
-    }
+    let moved = heard::moved_of(history, n, head);
+    let settled = settled::settled_of(history, n, head);
+    let characters = text::characters_of(history, n, head);
+    tally.moved = std::num::wrapping_add_u64(tally.moved, moved);
+    tally.settled = std::num::wrapping_add_u64(tally.settled, settled);
+    tally.characters = std::num::wrapping_add_u64(tally.characters, characters);
     tally
 }
 
 fn noted(history: &[u16], n: u16, tally: Tally, item: Item, answer: u32) -> Tally {
-    let mut tally = counted(history, n, tally);
-    let characters = text::characters_of(history, n, random::head_of(item));
-    tally.characters = std::num::wrapping_add_u64(tally.characters, characters);
+    let mut tally = counted(history, n, random::head_of(item), tally);
     tally.items = more(tally.items);
     match item {
         Item::Milking { stall: _, given: _ } => {
@@ -91,12 +92,13 @@ fn step(
     random: &mut u64,
     n: u16,
     way: u16,
+    is_last: bool,
     tally: Tally,
 ) -> Tally {
     let item = random::next_item(random, history, n, way);
     let wanted = compare::wanted(history, n, item);
     let got = compare::done(images, n, item);
-    let difference = compare::compare(history, images, n, item, wanted, got);
+    let difference = compare::compare(history, images, n, item, is_last, wanted, got);
     let mut tally = noted(history, n, tally, item, got.answer);
     if let Difference::Nothing = difference {
         return tally;
@@ -125,10 +127,10 @@ fn run_list(
         tally.differences = more(before);
         return tally;
     }
-    let mut left = random::below(random, 480);
+    let mut left = random::below(random, ITEMS);
     while 0 < left {
         left -= 1;
-        tally = step(history, images, random, n, way, tally);
+        tally = step(history, images, random, n, way, left == 0, tally);
         if tally.differences != before {
             return tally;
         }
@@ -149,10 +151,10 @@ fn run_lists(history: &mut [u16], images: &mut [u8], random: &mut u64, n: u16) -
         characters: 0,
         differences: 0,
     };
-    let mut list = 0u16;
-    while list < LISTS {
-        tally = run_list(history, images, random, n, list % 4, tally);
-        list += 1;
+    let mut left = LISTS;
+    while 0 < left {
+        left -= 1;
+        tally = run_list(history, images, random, n, left % 4, tally);
     }
     tally
 }
@@ -173,10 +175,11 @@ fn say_tally(n: u16, tally: Tally) {
     say(b" differences\n");
 }
 
-fn run_sizes(history: &mut [u16], images: &mut [u8]) {
+// Every size from 2 to the most.
+fn run_sizes(history: &mut [u16], images: &mut [u8], most: u16) {
     let mut random = 20260701u64;
     let mut n = 1u16;
-    while n < 8 {
+    while n < most {
         n += 1;
         let tally = run_lists(history, images, &mut random, n);
         say_tally(n, tally);
@@ -186,5 +189,5 @@ fn run_sizes(history: &mut [u16], images: &mut [u8]) {
 fn main() {
     let mut history = [0u16; history::WORDS];
     let mut images = [0u8; calls::BYTES];
-    run_sizes(&mut history, &mut images);
+    run_sizes(&mut history, &mut images, MOST);
 }

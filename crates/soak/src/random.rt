@@ -1,5 +1,6 @@
 // Pseudo-random items.
 use crate::history;
+use crate::sizes::ROOM;
 
 pub enum Item {
     Milking {
@@ -93,10 +94,10 @@ fn ordered_pair(random: &mut u64, history: &[u16], n: u16, way: u16) -> Pair {
     }
 }
 
-// A buffer of n bytes, now and then of another length.
+// A buffer of n bytes, now and then of any length that there is room for.
 fn buffer_length(random: &mut u64, n: u16) -> u16 {
     if below(random, 10) == 0 {
-        below(random, 17)
+        below(random, ROOM as u16 + 1)
     } else {
         n
     }

@@ -6,6 +6,7 @@ use crate::heard;
 use crate::history;
 use crate::random::Item;
 use crate::settled;
+use crate::sizes::ROOM;
 use crate::table;
 use crate::text;
 use crate::words::get_byte;
@@ -101,7 +102,7 @@ fn say_list(history: &[u16], images: &[u8], n: u16, head: u16) {
 
 // The same for the numbers of what is settled.
 fn say_settled(image: &[u8], n: u16, buffer: u16) {
-    let mut counts = [calls::UNWRITTEN; 16];
+    let mut counts = [calls::UNWRITTEN; ROOM];
     let answer = calls::settled(image, n, &mut counts, buffer);
     say_number(b"    buffer ", buffer as u64);
     say_number(b": answer ", answer as u64);
@@ -110,7 +111,7 @@ fn say_settled(image: &[u8], n: u16, buffer: u16) {
 
 fn say_counts(history: &[u16], images: &[u8], n: u16, head: u16) {
     let image = calls::image_of(images, head);
-    let mut wanted = [calls::UNWRITTEN; 16];
+    let mut wanted = [calls::UNWRITTEN; ROOM];
     settled::put_counts(history, n, head, &mut wanted);
     say_number(b"  settled numbers of head ", head as u64);
     say_hex(b"\n    wanted ", &wanted);

@@ -3,6 +3,7 @@
 use crate::calls;
 use crate::calls::UNWRITTEN;
 use crate::history;
+use crate::sizes::ROOM;
 use crate::words::put_byte;
 use crate::words::same;
 
@@ -37,16 +38,16 @@ pub fn longer(n: u16) -> u16 {
 }
 
 fn is_longer_refused(image: &[u8], n: u16) -> bool {
-    let wanted = [UNWRITTEN; 16];
-    let mut counts = [UNWRITTEN; 16];
+    let wanted = [UNWRITTEN; ROOM];
+    let mut counts = [UNWRITTEN; ROOM];
     let answer = calls::settled(image, n, &mut counts, longer(n));
     answer == 8 && same(&wanted, &counts)
 }
 
 // A head's numbers are what the history says.
 pub fn are_counts_right(history: &[u16], image: &[u8], n: u16, head: u16) -> bool {
-    let mut wanted = [UNWRITTEN; 16];
-    let mut counts = [UNWRITTEN; 16];
+    let mut wanted = [UNWRITTEN; ROOM];
+    let mut counts = [UNWRITTEN; ROOM];
     put_counts(history, n, head, &mut wanted);
     let answer = calls::settled(image, n, &mut counts, n);
     answer == 0 && same(&wanted, &counts) && is_longer_refused(image, n)

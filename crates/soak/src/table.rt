@@ -1,6 +1,7 @@
 // What an image must hold, byte by byte: the section of document 01 on the table of one head, read
 // of a history.
 use crate::history;
+use crate::sizes::order_width;
 use crate::words::push;
 use crate::words::push_two;
 
@@ -52,19 +53,27 @@ fn push_yields(history: &[u16], n: u16, head: u16, image: &mut [u8], from: usize
     at
 }
 
-// The order byte of r, from the highest stall down: each turn doubles what the turns before gave.
-fn order_byte(history: &[u16], n: u16, head: u16, r: u16) -> u16 {
+// The order entry of r, from the highest stall down: each turn doubles what the turns before gave.
+fn order_of(history: &[u16], n: u16, head: u16, r: u16) -> u16 {
     let of_r = history::latest(history, head, r);
-    let mut byte = 0u16;
+    let mut order = 0u16;
     let mut s = n;
     while 0 < s {
-        byte = byte % 256 * 2;
+        order = order % 32768 * 2;
         if history::is_in_past(history, of_r, history::latest(history, head, s)) {
-            byte += 1;
+            order += 1;
         }
         s -= 1;
     }
-    byte
+    order
+}
+
+fn push_entry(image: &mut [u8], at: usize, n: u16, order: u16) -> usize {
+    if order_width(n) == 1 {
+        push(image, at, order)
+    } else {
+        push_two(image, at, order)
+    }
 }
 
 fn push_order(history: &[u16], n: u16, head: u16, image: &mut [u8], from: usize) -> usize {
@@ -72,7 +81,7 @@ fn push_order(history: &[u16], n: u16, head: u16, image: &mut [u8], from: usize)
     let mut r = 0u16;
     while r < n {
         r += 1;
-        at = push(image, at, order_byte(history, n, head, r));
+        at = push_entry(image, at, n, order_of(history, n, head, r));
     }
     at
 }

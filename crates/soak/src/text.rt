@@ -1,5 +1,5 @@
 // The text of a head's wall panel: a line for each stall that it has heard of. Made of the records that a
-// history gives, from request 2026-08 alone, and held to what the call does.
+// history gives, from requests 2026-08 and 2026-09 alone, and held to what the call does.
 use crate::calls;
 use crate::calls::UNWRITTEN;
 use crate::heard;
@@ -9,42 +9,42 @@ use crate::words::get_two;
 use crate::words::push;
 use crate::words::same;
 
-// "A lent buffer of 128 bytes"; one with a byte fewer or more the call must refuse.
-pub const BUFFER: usize = 128;
+// "Its buffer becomes 256 bytes for every N"; one with a byte fewer or more the call must refuse.
+pub const BUFFER: usize = 256;
 
-pub const SHORTER: usize = 127;
+pub const SHORTER: usize = BUFFER - 1;
 
-pub const LONGER: usize = 129;
+pub const LONGER: usize = BUFFER + 1;
 
 // The last digit of a number.
 fn push_digit(text: &mut [u8], at: usize, number: u16) -> usize {
     push(text, at, number % 10 + 48)
 }
 
-// The tens of litres, if there are any: "numbers without leading zeros".
-fn push_tens(text: &mut [u8], at: usize, given: u16) -> usize {
-    if given < 100 {
-        return at;
+// A number below 100: "numbers without leading zeros".
+fn push_number(text: &mut [u8], at: usize, number: u16) -> usize {
+    if number < 10 {
+        return push_digit(text, at, number);
     }
-    push_digit(text, at, given / 100)
+    let next = push_digit(text, at, number / 10);
+    push_digit(text, next, number)
 }
 
-// "Yield in litres with one decimal, or `-` for not milked". A digit stands on each side of the point.
+// "Yield in litres with one decimal, or `-` for not milked": the litres, the point, the decimal.
 fn push_yield(text: &mut [u8], at: usize, given: u16) -> usize {
     if given == NOT_MILKED {
         return push(text, at, b'-' as u16);
     }
-    let mut next = push_tens(text, at, given);
-    next = push_digit(text, next, given / 10);
+    let mut next = push_number(text, at, given / 10);
     next = push(text, next, b'.' as u16);
     push_digit(text, next, given)
 }
 
-// "Rank, stall, yield, single blanks between, newline after each". Ranks and stalls are at most 8, so one digit.
+// "Rank, stall, yield, single blanks between, newline after each".
 fn push_line(text: &mut [u8], at: usize, rank: u16, stall: u16, given: u16) -> usize {
-    let mut next = push_digit(text, at, rank);
+    let mut next = push_number(text, at, rank);
     next = push(text, next, b' ' as u16);
-    next = push_digit(text, next, stall);
+    next = push_number(text, next, stall);
     next = push(text, next, b' ' as u16);
     next = push_yield(text, next, given);
     push(text, next, b'\n' as u16)

@@ -8,10 +8,10 @@ use Rattle.soak.proofs.run_sizes.Statement.{statement}
 use Rattle.soak.proofs.run_sizes.Tie as tie
 
 abbrev Inv-loop : tie.InvT-loop
-Inv-loop history₀ images₀ random₀ n₀ history images random n = (length history ≡ length history₀) × (length images ≡ length images₀)
+Inv-loop history₀ images₀ most random₀ n₀ history images random n = (length history ≡ length history₀) × (length images ≡ length images₀)
 
 abbrev μ-loop : tie.MeasureT-loop
-μ-loop history₀ images₀ random₀ n₀ history images random n = 8 - n
+μ-loop history₀ images₀ most random₀ n₀ history images random n = most - n
 
 pub run-sizes-spec : {M : Type 1} → statement M
 run-sizes-spec =

@@ -1,5 +1,5 @@
 -- `soak::calls::load` is safe and ends: the measure is what is left of the loop. What is lent keeps its length.
-use Prim.Native.Nat.{_-_}
+use Prim.Native.Nat.{_≤_}
 use mathlib.Core.Path.{_≡_, refl}
 use native.Mathlib.Omega.{arith}
 use borrow.Author.Needs.{needs}
@@ -8,10 +8,10 @@ use Rattle.soak.proofs.calls.load.Statement.{statement}
 use Rattle.soak.proofs.calls.load.Tie as tie
 
 abbrev Inv-loop : tie.InvT-loop
-Inv-loop images stall image₀ base i₀ image i = length image ≡ length image₀
+Inv-loop images stall image₀ base i₀ image i = (length image ≡ length image₀) × (i ≤ i₀)
 
 abbrev μ-loop : tie.MeasureT-loop
-μ-loop images stall image₀ base i₀ image i = 156 - i
+μ-loop images stall image₀ base i₀ image i = i
 
 pub load-spec : {M : Type 1} → statement M
 load-spec =
@@ -20,11 +20,11 @@ load-spec =
     Inv-loop
     μ-loop
     (λ c. omega arith)
-    (λ c. refl)
+    (λ c. (refl, omega arith))
+    (λ c. omega arith)
     (λ c. omega arith)
     (λ c κs. tt)
     (λ c κs. tt)
-    (λ c. omega arith)
     (λ c. omega arith)
     (λ c. search needs)
     (λ c. search needs)

@@ -1,5 +1,4 @@
 -- `soak::history::open` is safe and ends: the measure is what is left of the loop. What is lent keeps its length.
-use Prim.Native.Nat.{_-_}
 use mathlib.Core.Path.{_≡_}
 use native.Mathlib.Omega.{arith}
 use borrow.Author.Needs.{needs}
@@ -11,7 +10,7 @@ abbrev Inv-loop : tie.InvT-loop
 Inv-loop history₀ head₀ history head = length history ≡ length history₀
 
 abbrev μ-loop : tie.MeasureT-loop
-μ-loop history₀ head₀ history head = 8 - head
+μ-loop history₀ head₀ history head = head
 
 pub open-spec : {M : Type 1} → statement M
 open-spec =
@@ -21,9 +20,9 @@ open-spec =
     μ-loop
     (λ c κs. tt)
     (λ c. search needs)
+    (λ c κs. tt)
+    (λ c κs. tt)
     (λ c. omega arith)
-    (λ c κs. tt)
-    (λ c κs. tt)
     (λ c. omega arith)
     (λ c. search needs)
     (λ c. search needs)
