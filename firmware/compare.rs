@@ -215,8 +215,8 @@ fn main() {
     for _ in 0..share_of(100_000) {
         singles::call_each(&mut random, &PLAIN, &mut counts);
     }
-    edges(&mut random, &mut counts, share_of(20).max(1));
-    let tried = labels(&mut random, &mut counts, share_of(10).max(1));
+    edges(&mut random, &mut counts, share_of(12).max(1));
+    let tried = labels(&mut random, &mut counts, share_of(5).max(1));
     neighbours(&mut random, &mut counts, share_of(2).max(1));
     lengths(&mut counts);
     marks(&mut random, &mut counts, share_of(50).max(1));

@@ -195,7 +195,7 @@ fn require(test: &Test) {
 
 fn main() {
     let forms: [(&str, u64, &'static Calls, usize); 2] =
-        [("plain", 0x5eed_0041, &PLAIN, 200), ("packed", 0x5eed_0042, &PACKED, 600)];
+        [("plain", 0x5eed_0041, &PLAIN, 120), ("packed", 0x5eed_0042, &PACKED, 600)];
     for (form, seed, calls, rounds) in forms {
         println!("settled: {form}: seed {seed:#x}");
         let mut random = Random(seed);
