@@ -88,13 +88,17 @@ fn try_label(
     }
 }
 
-/// Images of every size with a name in every place, so often, with each label at an edge in each.
+/// Images of every size with a name in every place, so often, with each label at an edge in each; in
+/// large ones, where few calls are to be made, in some.
 fn labels(random: &mut Random, counts: &mut Counts, rounds: usize) -> Tried {
     let mut tried = Tried::default();
     for n in (LEAST..=MOST).flat_map(|n| vec![n; rounds]) {
         let stall = random.stall(n);
         let table = images::full(random, n, stall);
         for (s, r) in (1..=n).flat_map(|s| (1..=n).map(move |r| (s, r))) {
+            if n > 8 && random.below(1_000) >= share_of(1_000).max(100) {
+                continue;
+            }
             for label in edge_labels(n) {
                 try_label(random, counts, &mut tried, table.clone(), (s, r, label));
             }
@@ -127,14 +131,17 @@ fn pairs_of(bytes: &[u8]) -> impl Iterator<Item = (u8, u8)> + '_ {
     bytes.iter().flat_map(move |&first| bytes.iter().map(move |&second| (first, second)))
 }
 
-/// Accepted images of every size, so often, with each two such bytes side by side in each place: no
-/// byte may show in the judgement of its neighbour.
-fn neighbours(random: &mut Random, counts: &mut Counts, rounds: usize) {
-    for n in (LEAST..=MOST).flat_map(|n| vec![n; rounds]) {
+/// Accepted images of every size with each two such bytes side by side in each place, so many in a
+/// thousand: no byte may show in the judgement of its neighbour.
+fn neighbours(random: &mut Random, counts: &mut Counts, share: usize) {
+    for n in (LEAST..=MOST).flat_map(|n| [n; 2]) {
         let stall = random.stall(n);
         let image = images::accepted(random, n, stall).to_bytes();
         for at in 2..image.len() - 1 {
             for (first, second) in pairs_of(&edge_bytes(n)) {
+                if random.below(1_000) >= share {
+                    continue;
+                }
                 let mut changed = image.clone();
                 changed[at] = first;
                 changed[at + 1] = second;
@@ -158,13 +165,13 @@ fn length_with(n: usize, width: usize) -> usize {
     Form::Plain.orders_at(n) + width * n
 }
 
-/// Fresh images and their buffers, of every size and with every other N, cut off or made longer to
-/// lengths next to the right one of each size, be order entries of one byte or of two.
+/// Fresh images and their buffers, of every size and with every other N, or some, cut off or made
+/// longer to lengths next to the right one of each size, be order entries of one byte or of two.
 fn lengths(counts: &mut Counts) {
     let of_size = |n| [1, 2].map(|width| length_with(n, width));
     let near = |len: usize| [len - 1, len, len + 1];
     let lens: Vec<usize> = (LEAST..=MOST).flat_map(of_size).flat_map(near).chain([0, 1]).collect();
-    for n in 0..=u8::MAX as usize {
+    for n in (0..=255).filter(|&n| share_of(256) == 256 || n < MOST + 3 || n == 255) {
         let is_size = Form::Plain.sizes().contains(&n);
         let fresh = Table::fresh(n.clamp(LEAST, MOST), 1).to_bytes();
         for &len in &lens {
@@ -217,7 +224,7 @@ fn main() {
     }
     edges(&mut random, &mut counts, share_of(12).max(1));
     let tried = labels(&mut random, &mut counts, share_of(5).max(1));
-    neighbours(&mut random, &mut counts, share_of(2).max(1));
+    neighbours(&mut random, &mut counts, share_of(1_000));
     lengths(&mut counts);
     marks(&mut random, &mut counts, share_of(50).max(1));
     all_yields(&mut counts);

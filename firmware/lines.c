@@ -1,6 +1,6 @@
-/* The line program of document 01 with request 2026-05 in plain C over plain.c, unproved: the
-   baseline of the benchmark. It reads frames from standard input, one a line, and answers each with
-   a line. */
+/* The line program of document 01 with requests 2026-05 and 2026-09 in plain C over plain.c,
+   unproved: the baseline of the benchmark. It reads frames from standard input, one a line, and
+   answers each with a line. */
 #include "wilbryn.h"
 
 #include <errno.h>

@@ -56,11 +56,11 @@ const LENGTHS: [usize; 10] = [
     PANEL_LENGTH + 65_536,
 ];
 
-/// The length of the longest text: each line has a yield of 10.0 litres or more, and from the tenth
-/// on a rank of two digits; so have some stalls.
+/// The length of the longest text: each rank and each stall up to n once, and in each line two blanks
+/// and a yield of 10.0 litres or more.
 fn longest(n: usize) -> usize {
-    let digits = |last: usize| (1..=last).map(|number| number.to_string().len()).sum::<usize>();
-    2 * digits(n) + n * " ".len() * 2 + n * "99.9\n".len()
+    let digits: usize = (1..=n).map(|number| number.to_string().len()).sum();
+    2 * digits + n * "  99.9\n".len()
 }
 
 /// A line of a text: its rank, and what it says as a record.

@@ -49,8 +49,7 @@ extern "C" {
 
 /* For 2 to 8 heads 18, 31, 48, 69, 94, 123, 156; for 9 to 16 heads 202, 244, 290, 340, 394, 452,
    514, 580. */
-#define WILBRYN_IMAGE_LENGTH(n) \
-    (2u * (n) * (n) + (2u + WILBRYN_ORDER_WIDTH(n)) * (n) + 4u)
+#define WILBRYN_IMAGE_LENGTH(n) (2u * (n) * (n) + (2u + WILBRYN_ORDER_WIDTH(n)) * (n) + 4u)
 
 /* For 2 to 8 heads 14, 22, 32, 44, 58, 74, 92; no other N has packed images. */
 #define WILBRYN_PACKED_LENGTH(n) ((n) * (n) + 3u * (n) + 4u)
