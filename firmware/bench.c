@@ -436,8 +436,8 @@ static const struct timed {
     const char *what;
     run *run;
     call *call;
-} timed[] = {{"fresh", run_in_place, fresh}, {"check", run_in_place, check},
-             {"heard", run_pairs, heard},    {"settled", run_pairs, settled},
+} timed[] = {{"fresh", run_in_place, fresh},  {"check", run_in_place, check},
+             {"heard", run_pairs, heard},     {"settled", run_pairs, settled},
              {"meeting", run_pairs, meeting}, {"panel", run_pairs, panel}};
 
 enum { TIMED = sizeof timed / sizeof timed[0] };
