@@ -282,7 +282,8 @@ static void add_marks(struct run image, uint8_t r, unsigned marks) {
     put_marks(image, r, marks_of(image, r) | marks);
 }
 
-/* An entry of two bytes with the low one first has marks of other stalls, or above N. */
+/* An entry of two bytes with the low one first has marks to stalls never heard or above N, unless
+   both are the same. */
 static void try_low_byte_first(struct run image, uint8_t n, uint8_t other) {
     uint8_t *at = image.bytes + order_at(image, n), high = at[0];
     at[0] = at[1];
