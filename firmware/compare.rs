@@ -134,7 +134,7 @@ fn pairs_of(bytes: &[u8]) -> impl Iterator<Item = (u8, u8)> + '_ {
 /// Accepted images of every size with each two such bytes side by side in each place, so many in a
 /// thousand: no byte may show in the judgement of its neighbour.
 fn neighbours(random: &mut Random, counts: &mut Counts, share: usize) {
-    for n in (LEAST..=MOST).flat_map(|n| [n; 2]) {
+    for n in LEAST..=MOST {
         let stall = random.stall(n);
         let image = images::accepted(random, n, stall).to_bytes();
         for at in 2..image.len() - 1 {
@@ -219,7 +219,7 @@ fn main() {
     println!("compare: seed {SEED:#x}");
     let mut random = Random(SEED);
     let mut counts = Counts::default();
-    for _ in 0..share_of(100_000) {
+    for _ in 0..share_of(70_000) {
         singles::call_each(&mut random, &PLAIN, &mut counts);
     }
     edges(&mut random, &mut counts, share_of(12).max(1));

@@ -23,8 +23,7 @@ pub type Yields = Vec<Option<u16>>;
 const KINDS: [Option<u16>; 8] =
     [None, Some(NOT_MILKED), Some(0), Some(999), Some(255), Some(256), Some(1), Some(512)];
 
-/// How many of these each stall has in turn, by number of heads: as many as are soon done. From 9 up
-/// some are drawn.
+/// How many of these each stall has, by number of heads: as many as are soon tried in turn.
 fn kinds_of(n: usize) -> usize {
     match n {
         7 => 6,
@@ -36,8 +35,8 @@ fn kinds_of(n: usize) -> usize {
 /// A different one for each of so many stalls, 0 among them.
 const DIFFERENT: [u16; 16] = [0, 1, 7, 255, 256, 511, 512, 999, 9, 10, 99, 100, 257, 640, 768, 998];
 
-/// More than this are not tried in turn.
-const MOST_IN_TURN: usize = 400_000;
+/// The most heads of which all are tried in turn.
+const MOST_IN_TURN: usize = 8;
 
 /// A head that has this, whatever else it has.
 fn head(random: &mut Random, yields: &Yields) -> Table {
@@ -81,9 +80,10 @@ fn draw(random: &mut Random, n: usize) -> Yields {
     (1..=n).map(draw_one).collect()
 }
 
-/// Numbers below this one: so many in a thousand, or all if they are few; of too many some are drawn.
-fn numbers(random: &mut Random, all: usize, share: usize) -> Vec<usize> {
-    if all > MOST_IN_TURN {
+/// Numbers of such heads, of this many that there are: so many in a thousand, or all if they are few;
+/// of large parlours some are drawn.
+fn numbers(random: &mut Random, n: usize, all: usize, share: usize) -> Vec<usize> {
+    if n > MOST_IN_TURN {
         return (0..10 * share).map(|_| random.below(all)).collect();
     }
     (0..all).filter(|_| all < 1_000 || random.below(1_000) < share).collect()
@@ -92,7 +92,7 @@ fn numbers(random: &mut Random, all: usize, share: usize) -> Vec<usize> {
 /// Each of the kinds for each stall.
 fn each_kind(random: &mut Random, n: usize, share: usize, each: &mut impl FnMut(&Table)) {
     let kinds = kinds_of(n);
-    for number in numbers(random, kinds.pow(n as u32), share) {
+    for number in numbers(random, n, kinds.pow(n as u32), share) {
         let kind = |r: u32| KINDS[number / kinds.pow(r) % kinds];
         each(&head(random, &(0..n as u32).map(kind).collect()));
     }
@@ -100,7 +100,7 @@ fn each_kind(random: &mut Random, n: usize, share: usize, each: &mut impl FnMut(
 
 /// Each order of stalls that differ in their yields, the lowest of these milked or not.
 fn each_order(random: &mut Random, n: usize, share: usize, each: &mut impl FnMut(&Table)) {
-    for number in numbers(random, (1..=n).product(), share) {
+    for number in numbers(random, n, (1..=n).product(), share) {
         let mut rising = DIFFERENT[..n].to_vec();
         rising.sort();
         rising[0] = random.pick(&[0, NOT_MILKED]);

@@ -112,7 +112,7 @@ fn edges(random: &mut Random, seen: &mut Seen, steps: usize) {
 fn used_up(random: &mut Random, seen: &mut Seen, steps: usize) {
     let labels = |n| (0..=label_limit(n)).map(move |lowest| (n, lowest as u8));
     let turns: Vec<(usize, u8)> = (3..=MOST).flat_map(labels).collect();
-    for step in 0..steps.max(20 * turns.len()) {
+    for step in 0..steps.max(12 * turns.len()) {
         let (n, lowest) = turns[step % turns.len()];
         let (first, second) = images::used_up(random, n, lowest);
         let (first, second) = (first.to_bytes(), second.to_bytes());
