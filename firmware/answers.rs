@@ -1,5 +1,5 @@
-//! The line program of document 01 with request 2026-05 in plain Rust, over the model: what each
-//! line is answered.
+//! The line program of document 01 with requests 2026-05 and 2026-09 in plain Rust, over the model:
+//! what each line is answered.
 
 use crate::model::{Form, Table, NOT_MILKED};
 
@@ -135,10 +135,10 @@ impl Lines {
     }
 
     fn open(&mut self, n: u8) -> Result<Vec<u8>, u8> {
-        if !(2..=8).contains(&n) {
+        let n = n as usize;
+        if !Form::Plain.sizes().contains(&n) {
             return Err(1);
         }
-        let n = n as usize;
         self.images = vec![vec![]];
         self.images.extend((1..=n).map(|stall| Table::fresh(n, stall).to_bytes()));
         Ok(vec![])

@@ -1,10 +1,10 @@
-/* Times the check, the heard list, what is settled, the meeting and the wall panel of wilbryn.h
-   against the plain and the expert version on the same images, then those on packed images against
-   the plain version and against wilbryn.h's own on the unpacked ones; and measures the stack that
-   they touch. What writes is timed on copies, the check on images where they lie, as at a start-up.
-   Then it times a start-up: the check of 10,000 stored images of 8 heads, plain and packed. Where
-   the checks of an earlier landing are linked in as before_check and before_packed_check, the
-   checks are timed against these too, in the same rounds. */
+/* Times the fresh table, the check, the heard list, what is settled, the meeting and the wall panel
+   of wilbryn.h against the plain and the expert version on the same images, then those on packed
+   images against the plain version and against wilbryn.h's own on the unpacked ones; and measures
+   the stack that they touch. What writes is timed on copies, the check on images where they lie, as
+   at a start-up. Then it times a start-up: the check of 10,000 stored images of 8 heads, plain and
+   packed. Where the calls of the landing before are linked in as before_check and so on, all are
+   timed against these too, in the same rounds, for the sizes that it has. */
 #define _XOPEN_SOURCE 700
 #include "wilbryn.h"
 
@@ -14,7 +14,7 @@
 #include <time.h>
 #include <ucontext.h>
 
-extern __typeof__(wilbryn_fresh) plain_fresh;
+extern __typeof__(wilbryn_fresh) plain_fresh, expert_fresh, plain_packed_fresh;
 extern __typeof__(wilbryn_milking) plain_milking;
 extern __typeof__(wilbryn_pack) plain_pack;
 extern __typeof__(wilbryn_unpack) plain_unpack;
@@ -24,15 +24,27 @@ extern __typeof__(wilbryn_settled) plain_settled, expert_settled, plain_packed_s
 extern __typeof__(wilbryn_meeting) plain_meeting, expert_meeting, plain_packed_meeting;
 extern __typeof__(wilbryn_panel) plain_panel, expert_panel, plain_packed_panel;
 
-/* Null where no earlier landing is linked in. */
-extern __typeof__(wilbryn_check) before_check __attribute__((weak));
-extern __typeof__(wilbryn_check) before_packed_check __attribute__((weak));
+/* Null where no landing before is linked in. */
+#define WEAK __attribute__((weak))
+extern WEAK __typeof__(wilbryn_fresh) before_fresh, before_packed_fresh;
+extern WEAK __typeof__(wilbryn_check) before_check, before_packed_check;
+extern WEAK __typeof__(wilbryn_heard) before_heard, before_packed_heard;
+extern WEAK __typeof__(wilbryn_settled) before_settled, before_packed_settled;
+extern WEAK __typeof__(wilbryn_meeting) before_meeting, before_packed_meeting;
+extern WEAK __typeof__(wilbryn_panel) before_panel, before_packed_panel;
+
+enum { MOST = WILBRYN_MOST_HEADS, MOST_PACKED = WILBRYN_MOST_PACKED_HEADS };
+
+/* Of the landing before: its most heads, and the buffer that its panel wants. */
+enum { MOST_BEFORE = 8, PANEL_BEFORE = 128 };
 
 enum form { UNPACKED, PACKED, FORMS };
 
 struct version {
     const char *name;
     enum form form;
+    size_t most, panel_length;
+    __typeof__(wilbryn_fresh) *fresh;
     __typeof__(wilbryn_check) *check;
     __typeof__(wilbryn_heard) *heard;
     __typeof__(wilbryn_settled) *settled;
@@ -40,19 +52,18 @@ struct version {
     __typeof__(wilbryn_panel) *panel;
 };
 
+/* The functions whose names start with these words. */
+#define CALLS(words)                                                                               \
+    words##_fresh, words##_check, words##_heard, words##_settled, words##_meeting, words##_panel
+
 static const struct version
-    plain = {"plain", UNPACKED, plain_check, plain_heard, plain_settled, plain_meeting,
-             plain_panel},
-    expert = {"expert", UNPACKED, expert_check, expert_heard, expert_settled, expert_meeting,
-              expert_panel},
-    before = {"before", UNPACKED, before_check, NULL, NULL, NULL, NULL},
-    wilbryn = {"wilbryn", UNPACKED, wilbryn_check, wilbryn_heard, wilbryn_settled, wilbryn_meeting,
-               wilbryn_panel},
-    plain_packed = {"plain", PACKED, plain_packed_check, plain_packed_heard, plain_packed_settled,
-                    plain_packed_meeting, plain_packed_panel},
-    before_packed = {"before", PACKED, before_packed_check, NULL, NULL, NULL, NULL},
-    wilbryn_packed = {"packed", PACKED, wilbryn_packed_check, wilbryn_packed_heard,
-                      wilbryn_packed_settled, wilbryn_packed_meeting, wilbryn_packed_panel};
+    plain = {"plain", UNPACKED, MOST, WILBRYN_PANEL_LENGTH, CALLS(plain)},
+    expert = {"expert", UNPACKED, MOST, WILBRYN_PANEL_LENGTH, CALLS(expert)},
+    before = {"before", UNPACKED, MOST_BEFORE, PANEL_BEFORE, CALLS(before)},
+    wilbryn = {"wilbryn", UNPACKED, MOST, WILBRYN_PANEL_LENGTH, CALLS(wilbryn)},
+    plain_packed = {"plain", PACKED, MOST_PACKED, WILBRYN_PANEL_LENGTH, CALLS(plain_packed)},
+    before_packed = {"before", PACKED, MOST_PACKED, PANEL_BEFORE, CALLS(before_packed)},
+    wilbryn_packed = {"packed", PACKED, MOST_PACKED, WILBRYN_PANEL_LENGTH, CALLS(wilbryn_packed)};
 
 /* Of the versions that are compared, the last is measured against the others. */
 enum { VERSIONS = 4 };
@@ -67,7 +78,10 @@ static compared at_start = {&before, &plain, &expert, &wilbryn};
 static compared at_start_packed = {&before_packed, &plain_packed, &wilbryn_packed};
 
 enum { PAIRS = 256, REPEATS = 8, WARM_UP = 4, ROUNDS = 61, STACK = 1 << 17 };
-enum { MOST = 8, LONGEST = WILBRYN_IMAGE_LENGTH(MOST), STORED = 10000 };
+enum { LONGEST = WILBRYN_IMAGE_LENGTH(MOST) };
+
+/* At a start-up: so many images of so many heads. */
+enum { STORED = 10000, STORED_HEADS = 8, STORED_LENGTH = WILBRYN_IMAGE_LENGTH(STORED_HEADS) };
 
 static uint64_t seed = 0x5eed0008;
 
@@ -86,12 +100,13 @@ static struct lent {
     uint8_t first[LONGEST], second[LONGEST], output[WILBRYN_PANEL_LENGTH];
 } pairs_of[FORMS][MOST + 1][PAIRS], work;
 
-/* Images of the most heads, one behind the other. */
-static uint8_t stored[FORMS][STORED * LONGEST];
+/* One behind the other. */
+static uint8_t stored[FORMS][STORED * STORED_LENGTH];
 
-/* The N at work and its lengths; the versions compared and the number of the last, and the one at
-   work with its length and its pairs; and the image that is checked. */
-static size_t n, lens[FORMS], len;
+/* The N at work and its lengths; the versions compared and the number of the last, the most heads
+   and the longest output that all of them have, and the one at work with its length and its pairs;
+   and the image that is checked. */
+static size_t n, lens[FORMS], len, most, output_length;
 static const struct version *const *versions, *version;
 static int last;
 static const struct lent *pairs;
@@ -103,10 +118,16 @@ static void work_on(size_t size) {
     lens[PACKED] = WILBRYN_PACKED_LENGTH(n);
 }
 
-/* All of these; without the first, where that is of an earlier landing and none is there. */
+/* All of these; without the first, where that is of the landing before and none is there. */
 static void compare_these(compared these) {
     versions = these[0]->check == NULL ? these + 1 : these;
-    for (last = 0; versions[last + 1] != NULL;) last++;
+    most = MOST;
+    output_length = WILBRYN_PANEL_LENGTH;
+    for (int v = 0; versions[v] != NULL; v++) {
+        last = v;
+        if (versions[v]->most < most) most = versions[v]->most;
+        if (versions[v]->panel_length < output_length) output_length = versions[v]->panel_length;
+    }
 }
 
 static void work_with(int v) {
@@ -136,7 +157,7 @@ static uint32_t count_heard(const uint8_t *image) {
 }
 
 /* Each pair comes from a list of its own, of 20 to 200 meetings with milkings between, or of more
-   until the first has heard of all stalls. */
+   until the first has heard of all stalls. Those of large parlours have no packed form. */
 static void make_pair(struct lent *pair, struct lent *packed) {
     uint8_t images[MOST][LONGEST];
     make_fresh(images);
@@ -144,6 +165,7 @@ static void make_pair(struct lent *pair, struct lent *packed) {
     while (count_heard(pair->first) < n) milk_and_meet(images, pair);
     memset(pair->output, 0xee, sizeof pair->output);
     *packed = *pair;
+    if (n > MOST_PACKED) return;
     plain_pack(pair->first, lens[UNPACKED], packed->first, lens[PACKED]);
     plain_pack(pair->second, lens[UNPACKED], packed->second, lens[PACKED]);
 }
@@ -164,7 +186,7 @@ static int store(const uint8_t *image, int i) {
 static void make_stored(void) {
     uint8_t images[MOST][LONGEST];
     struct lent pair;
-    work_on(MOST);
+    work_on(STORED_HEADS);
     for (int count = 0, meetings = 0; count < STORED; meetings = (meetings + 1) % 200) {
         make_fresh(images);
         for (int left = meetings; left > 0; left--) milk_and_meet(images, &pair);
@@ -177,6 +199,7 @@ static void make_stored(void) {
 typedef uint32_t call(void);
 
 static uint32_t nothing(void) { return 0; }
+static uint32_t fresh(void) { return version->fresh(work.first, len, (uint8_t)n, image[1]); }
 static uint32_t check(void) { return version->check(image, len); }
 static uint32_t heard(void) { return version->heard(work.first, len, work.output, 3 * n); }
 static uint32_t settled(void) { return version->settled(work.first, len, work.output, n); }
@@ -185,7 +208,7 @@ static uint32_t meeting(void) {
 }
 
 static uint32_t panel(void) {
-    return version->panel(work.first, len, work.output, WILBRYN_PANEL_LENGTH);
+    return version->panel(work.first, len, work.output, version->panel_length);
 }
 
 static void lay_out(const struct lent *pair) {
@@ -296,9 +319,10 @@ static size_t stack_of(call *call) {
     return most;
 }
 
-/* What lies in work, unpacked. */
+/* What lies in work, unpacked, and of the output what all versions have. */
 static struct lent unpacked(void) {
     struct lent lent = work;
+    memset(lent.output + output_length, 0, sizeof lent.output - output_length);
     if (version->form == PACKED) {
         plain_unpack(work.first, len, lent.first, lens[UNPACKED]);
         plain_unpack(work.second, len, lent.second, lens[UNPACKED]);
@@ -340,10 +364,10 @@ static void time_round(struct times *times, int round, run *run, call *call) {
     }
 }
 
-/* Rounds go through all N from the least, so that a slow spell of the machine meets all alike. */
-static void time_all(size_t least, run *run, call *call) {
+/* Rounds go through all these N, so that a slow spell of the machine meets all alike. */
+static void time_all(size_t from, size_t to, run *run, call *call) {
     for (int round = -WARM_UP; round < ROUNDS; round++) {
-        for (size_t size = least; size <= MOST; size++) {
+        for (size_t size = from; size <= to; size++) {
             work_on(size);
             time_round(&times_of[size], round < 0 ? 0 : round, run, call);
         }
@@ -392,9 +416,9 @@ static void print_names(void) {
     for (int v = 0; v <= last; v++) printf("%8s", versions[v]->name);
 }
 
-static void print_heads(const char *what, run *run) {
-    printf("%s: medians of %d interleaved rounds, %s taken off\n   ", what, ROUNDS,
-           run == run_pairs ? "the copying of the images" : "the loop");
+static void print_heads(const char *form, const char *what, const char *against, run *run) {
+    printf("%s%s%s: medians of %d interleaved rounds, %s taken off\n   ", form, what, against,
+           ROUNDS, run == run_pairs ? "the copying of the images" : "the loop");
     print_above("ns a call");
     for (int v = 0; v < last; v++) printf("%12s / %-9s", versions[last]->name, versions[v]->name);
     print_above("times N = 2");
@@ -407,18 +431,33 @@ static void print_heads(const char *what, run *run) {
     printf("\n");
 }
 
-static void compare(const char *what, compared these, run *run, call *call) {
+/* What is timed of each version, and how. */
+static const struct timed {
+    const char *what;
+    run *run;
+    call *call;
+} timed[] = {{"fresh", run_in_place, fresh},  {"check", run_in_place, check},
+             {"heard", run_pairs, heard},     {"settled", run_pairs, settled},
+             {"meeting", run_pairs, meeting}, {"panel", run_pairs, panel}};
+
+enum { TIMED = sizeof timed / sizeof timed[0] };
+
+static void compare_call(const char *form, const char *against, const struct timed *timed) {
+    print_heads(form, timed->what, against, timed->run);
+    for (size_t size = 2; size <= most; size++) {
+        work_on(size);
+        expect_same(timed->call);
+    }
+    time_all(2, most, timed->run, timed->call);
+    for (size_t size = 2; size <= most; size++) {
+        work_on(size);
+        print_row(timed->call);
+    }
+}
+
+static void compare(const char *form, const char *against, compared these) {
     compare_these(these);
-    print_heads(what, run);
-    for (size_t size = 2; size <= MOST; size++) {
-        work_on(size);
-        expect_same(call);
-    }
-    time_all(2, run, call);
-    for (size_t size = 2; size <= MOST; size++) {
-        work_on(size);
-        print_row(call);
-    }
+    for (int i = 0; i < TIMED; i++) compare_call(form, against, &timed[i]);
 }
 
 /* How many stored images have heard of this many stalls. */
@@ -441,11 +480,11 @@ static void expect_accepted(void) {
 
 static void start_up(const char *what, compared these) {
     compare_these(these);
-    work_on(MOST);
+    work_on(STORED_HEADS);
     expect_accepted();
-    time_all(MOST, run_stored, check);
+    time_all(STORED_HEADS, STORED_HEADS, run_stored, check);
     printf("%s of %d accepted images of %d heads: %d interleaved rounds, the loop taken off\n",
-           what, STORED, MOST, ROUNDS);
+           what, STORED, STORED_HEADS, ROUNDS);
     printf("%22s%17s%15s / it  quartiles\n", "microseconds", "quartiles", versions[last]->name);
     for (int v = 0; v <= last; v++) {
         printf("%8s%14.1f%10.1f to %8.1f", versions[v]->name, time_at(n, v, 0.5) / 1e3,
@@ -463,22 +502,13 @@ int main(void) {
         }
     }
     make_stored();
-    compare("check", on_images, run_in_place, check);
-    compare("heard", on_images, run_pairs, heard);
-    compare("settled", on_images, run_pairs, settled);
-    compare("meeting", on_images, run_pairs, meeting);
-    compare("panel", on_images, run_pairs, panel);
-    compare("packed check; wilbryn: that of the unpacked images", on_packed, run_in_place, check);
-    compare("packed heard; wilbryn: that of the unpacked images", on_packed, run_pairs, heard);
-    compare("packed settled; wilbryn: that of the unpacked images", on_packed, run_pairs, settled);
-    compare("packed meeting; wilbryn: that of the unpacked images", on_packed, run_pairs, meeting);
-    compare("packed panel; wilbryn: that of the unpacked images", on_packed, run_pairs, panel);
-    if (before_check != NULL) compare("check, since before", since_before, run_in_place, check);
-    if (before_packed_check != NULL) {
-        compare("packed check, since before", since_before_packed, run_in_place, check);
-    }
+    compare("", "", on_images);
+    compare("packed ", "; wilbryn: that of the unpacked images", on_packed);
+    if (before.check != NULL) compare("", ", since before", since_before);
+    if (before_packed.check != NULL) compare("packed ", ", since before", since_before_packed);
+    work_on(STORED_HEADS);
     printf("start-up: of %d stored images, %d of heads that met none, %d of heads that heard all\n",
-           STORED, count_stored(0), count_stored(MOST));
+           STORED, count_stored(0), count_stored(STORED_HEADS));
     start_up("check", at_start);
     start_up("packed check", at_start_packed);
     return 0;

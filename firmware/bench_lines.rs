@@ -14,13 +14,16 @@ use std::time::Instant;
 
 const LINES: usize = 1_000_000;
 
-/// A parlour of 8, then lines of which so many in a hundred are meetings and the others milkings.
-fn session(random: &mut Random, meetings: usize) -> String {
-    let mut input = String::from("0108\n");
+const MEETINGS: &str = "meetings, 1 in 4 a milking";
+const MILKINGS: &str = "milkings";
+
+/// A parlour of n, then lines of which so many in a hundred are meetings and the others milkings.
+fn session(random: &mut Random, n: usize, meetings: usize) -> String {
+    let mut input = format!("01{n:02x}\n");
     for _ in 1..LINES {
-        let stall = random.stall(8);
+        let stall = random.stall(n);
         input += &if random.percent(meetings) {
-            format!("03{stall:02x}{:02x}\n", random.other_stall(8, stall))
+            format!("03{stall:02x}{:02x}\n", random.other_stall(n, stall))
         } else {
             format!("02{stall:02x}{:04x}\n", random.good_yield())
         };
@@ -72,13 +75,13 @@ fn times(programs: &[String], session: &str, pipe: bool, rounds: usize) -> Vec<V
 }
 
 fn print_heads() {
-    println!("lines: a parlour of 8, {LINES} lines, medians of interleaved rounds");
-    println!("{:38}        lines a second      time, wilbryn / plain", "");
-    println!("session{:21}output to       plain    wilbryn    ratio     quartiles", "");
+    println!("lines: parlours of 8 and of 16, {LINES} lines, medians of interleaved rounds");
+    println!("{:40}        lines a second      time, wilbryn / plain", "");
+    println!(" N session{:20}output to       plain    wilbryn    ratio     quartiles", "");
 }
 
-fn print_row(name: &str, to: &str, times: &[Vec<f64>]) {
-    print!("{name:<28}{to:<10}");
+fn print_row(n: usize, name: &str, to: &str, times: &[Vec<f64>]) {
+    print!("{n:>2} {name:<27}{to:<10}");
     for times in times {
         print!("{:>11.0}", LINES as f64 / quantile(times, 0.5));
     }
@@ -106,12 +109,14 @@ fn main() {
     print_heads();
     let mut random = Random(0x5eed_0012);
     // Milkings alone are soon done, so that there is time for more rounds.
-    for (name, meetings, rounds) in [("meetings, 1 in 4 a milking", 75, 7), ("milkings", 0, 15)] {
-        let path = format!("{folder}/session-{meetings}");
-        fs::write(&path, session(&mut random, meetings)).expect("a session is written");
+    let sessions =
+        [(8, MEETINGS, 75, 7), (8, MILKINGS, 0, 15), (16, MEETINGS, 75, 7), (16, MILKINGS, 0, 15)];
+    for (n, name, meetings, rounds) in sessions {
+        let path = format!("{folder}/session-{n}-{meetings}");
+        fs::write(&path, session(&mut random, n, meetings)).expect("a session is written");
         expect_same(&programs, &path);
-        print_row(name, "/dev/null", &times(&programs, &path, false, rounds));
-        print_row(name, "a pipe", &times(&programs, &path, true, rounds));
+        print_row(n, name, "/dev/null", &times(&programs, &path, false, rounds));
+        print_row(n, name, "a pipe", &times(&programs, &path, true, rounds));
         fs::remove_file(&path).expect("a session is removed");
     }
 }

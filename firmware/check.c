@@ -1,19 +1,32 @@
-/* The examples of document 01 with requests 2026-01 to 2026-03, 2026-05, 2026-07 and 2026-08, on
+/* The examples of document 01 with requests 2026-01 to 2026-03, 2026-05 and 2026-07 to 2026-09, on
    the functions of wilbryn.h. */
 #include "check_calls.h"
 
 #include <string.h>
 
 _Static_assert(WILBRYN_NOT_MILKED == 0xffff, "not milked is ffff");
-_Static_assert(WILBRYN_PANEL_LENGTH == 128, "the buffer of a panel has 128 bytes");
+_Static_assert(WILBRYN_PANEL_LENGTH == 256, "the buffer of a panel has 256 bytes");
+_Static_assert(WILBRYN_MOST_HEADS == 16 && WILBRYN_MOST_PACKED_HEADS == 8, "the most heads");
+_Static_assert(WILBRYN_IMAGE_LENGTH(2) == 18 && WILBRYN_IMAGE_LENGTH(3) == 31 &&
+                   WILBRYN_IMAGE_LENGTH(4) == 48 && WILBRYN_IMAGE_LENGTH(5) == 69 &&
+                   WILBRYN_IMAGE_LENGTH(6) == 94 && WILBRYN_IMAGE_LENGTH(7) == 123 &&
+                   WILBRYN_IMAGE_LENGTH(8) == 156,
+               "the lengths of images with order bytes");
+_Static_assert(WILBRYN_IMAGE_LENGTH(9) == 202 && WILBRYN_IMAGE_LENGTH(10) == 244 &&
+                   WILBRYN_IMAGE_LENGTH(11) == 290 && WILBRYN_IMAGE_LENGTH(12) == 340 &&
+                   WILBRYN_IMAGE_LENGTH(13) == 394 && WILBRYN_IMAGE_LENGTH(14) == 452 &&
+                   WILBRYN_IMAGE_LENGTH(15) == 514 && WILBRYN_IMAGE_LENGTH(16) == 580,
+               "the lengths of images with order entries of two bytes");
 
 /* The refusals 1 to 6. The first of each number is document 01's own example; alone: with no other
    fault; 0 is accepted. */
 static const struct example examples[] = {
     {"N = 1", "01", 1},
     {"empty", "", 1},
-    {"N = 9", "09", 1},
+    {"N = 17", "11", 1},
     {"too short", "0201", 2},
+    {"N = 9 alone", "09", 2},
+    {"N = 16 alone", "10", 2},
     {"too long", "0201 ffff 00000000 00000000 ffffffff 0000 00", 2},
     {"own stall 3", "0203 0000 00000000 00000000 00000000 0000", 3},
     {"own stall 3 alone", "0203 ffff 00000000 00000000 ffffffff 0000", 3},
@@ -63,7 +76,8 @@ static void write_no_names(uint8_t *names, uint8_t n) { memset(names, 0, 2u * n 
    alone, and head 1 has what the first meeting left. */
 const struct form form = {
     .says = "check.c: as document 01 says",
-    .lengths = {[2] = 18, 31, 48, 69, 94, 123, 156},
+    .most = 16,
+    .lengths = {[2] = 18, 31, 48, 69, 94, 123, 156, 202, 244, 290, 340, 394, 452, 514, 580},
     .write_no_names = write_no_names,
     .fresh = wilbryn_fresh,
     .check = wilbryn_check,
@@ -177,9 +191,12 @@ static void try_yields(struct run image, uint8_t n, uint8_t other) {
 }
 
 /* The highest label, by N. */
-static const uint8_t label_limits[] = {[2] = 6, 10, 14, 18, 22, 26, 30};
+static const uint8_t label_limits[] = {[2] = 6,  10, 14, 18, 22, 26, 30, 34,
+                                       38, 42, 46, 50, 54, 58, 62};
 
-_Static_assert(WILBRYN_LABEL_LIMIT(2) == 6 && WILBRYN_LABEL_LIMIT(8) == 30, "the limit of labels");
+_Static_assert(WILBRYN_LABEL_LIMIT(2) == 6 && WILBRYN_LABEL_LIMIT(8) == 30 &&
+                   WILBRYN_LABEL_LIMIT(16) == 62,
+               "the limit of labels");
 
 static size_t name_at(uint8_t n, uint8_t row, uint8_t column) {
     return 4u + 2u * n * (row - 1u) + 2u * (column - 1u);
@@ -216,9 +233,93 @@ static void try_places_after(uint8_t n, uint8_t other) {
     shut_parlour(parlour);
 }
 
+/* From 9 heads up some of the others are enough. */
 static void try_places(void) {
-    for (uint8_t n = 2; n <= 8; n++) {
-        for (uint8_t other = 2; other <= n; other++) try_places_after(n, other);
+    for (uint8_t n = 2; n <= form.most; n++) {
+        for (uint8_t other = 2; other <= n; other++) {
+            if (n < 9 || other == 2 || other == 9 || other == n) try_places_after(n, other);
+        }
+    }
+}
+
+/* Request 2026-09: the length of each size with the other width of order entries; then the lengths
+   that 17 heads would have. */
+static void try_lengths(void) {
+    doing = "order entries of the other width";
+    for (uint8_t n = 2; n <= form.most; n++) {
+        struct run image = fresh_of(n, 1), other = lend(n < 9 ? image.len + n : image.len - n);
+        memset(other.bytes, 0, other.len);
+        memcpy(other.bytes, image.bytes, n < 9 ? image.len : other.len);
+        check(2, other);
+        fresh(2, other, n, 1);
+        give_back(other);
+        give_back(image);
+    }
+    doing = "17 heads";
+    static const size_t lengths[] = {2 * 17 * 17 + 3 * 17 + 4, 2 * 17 * 17 + 4 * 17 + 4, 580};
+    for (int i = 0; i < 3; i++) {
+        struct run image = lend(lengths[i]);
+        fresh(1, image, 17, 1);
+        image.bytes[0] = 17;
+        check(1, image);
+        give_back(image);
+    }
+}
+
+/* The order entry of a stall, of one byte or of two with the high one first, as a number. */
+static unsigned marks_of(struct run image, uint8_t r) {
+    const uint8_t *at = image.bytes + order_at(image, r);
+    return image.bytes[0] < 9 ? at[0] : at[0] * 256u + at[1];
+}
+
+static void put_marks(struct run image, uint8_t r, unsigned marks) {
+    uint8_t *at = image.bytes + order_at(image, r);
+    if (image.bytes[0] >= 9) *at++ = (uint8_t)(marks / 256);
+    *at = (uint8_t)(marks % 256);
+}
+
+static void add_marks(struct run image, uint8_t r, unsigned marks) {
+    put_marks(image, r, marks_of(image, r) | marks);
+}
+
+/* An entry of two bytes with the low one first has marks to stalls never heard or above N, unless
+   both are the same. */
+static void try_low_byte_first(struct run image, uint8_t n, uint8_t other) {
+    uint8_t *at = image.bytes + order_at(image, n), high = at[0];
+    at[0] = at[1];
+    at[1] = high;
+    check(n - 8 == other ? 0 : 6, image);
+}
+
+/* In the image of the last head, which has met one other: both have marks to both. Each bit of each
+   entry is turned over. Of the marks that are set the last head's to the other alone is not asked
+   for. */
+static void try_marks_after(uint8_t n, uint8_t other) {
+    doing = "each mark";
+    struct parlour parlour = open_parlour(n);
+    struct run image = parlour.images[n], verdicts = lend(n);
+    memset(verdicts.bytes, 0, n);
+    meeting(0, image, parlour.images[other], verdicts);
+    unsigned both = 1u << (n - 1) | 1u << (other - 1);
+    for (uint8_t r = 1; r <= n; r++) {
+        struct run wanted = copy(image), changed = copy(image);
+        put_marks(wanted, r, r == n || r == other ? both : 0);
+        expect_bytes("the order entry", wanted, image);
+        for (uint8_t s = 1; s <= (n < 9 ? 8 : 16); s++) {
+            put_marks(changed, r, marks_of(image, r) ^ 1u << (s - 1));
+            check(r == n && s == other ? 0 : 6, changed);
+        }
+        give_back(changed);
+        give_back(wanted);
+    }
+    if (n >= 9) try_low_byte_first(image, n, other);
+    give_back(verdicts);
+    shut_parlour(parlour);
+}
+
+static void try_marks(void) {
+    for (uint8_t n = 2; n <= form.most; n++) {
+        for (uint8_t other = 1; other < n; other++) try_marks_after(n, other);
     }
 }
 
@@ -227,10 +328,6 @@ static void put_name(struct run image, uint8_t row, uint8_t column, uint8_t part
     uint8_t *name = image.bytes + name_at(image.bytes[0], row, column);
     name[0] = partner;
     name[1] = label;
-}
-
-static void add_marks(struct run image, uint8_t r, unsigned marks) {
-    image.bytes[image.len - image.bytes[0] + r - 1u] |= (uint8_t)marks;
 }
 
 /* The image of head 1 or 2 with the most names of this pair, their labels counting up from the one
@@ -257,9 +354,9 @@ static struct run crowded(uint8_t n, uint8_t stall, uint8_t label) {
 static void meet_copies(uint8_t label, struct run one, struct run other, struct run verdicts) {
     struct run first = copy(one), second = copy(other), after = copy(one);
     uint8_t n = one.bytes[0];
-    memset(after.bytes + after.len - n, 0, 2);
     for (uint8_t r = 1; r <= n; r++) add_marks(after, r, 3);
     for (uint8_t row = 1; row <= 2; row++) {
+        put_marks(after, row, 3);
         put_name(after, row, 1, 2, label);
         put_name(after, row, 2, 1, label);
     }
@@ -310,7 +407,7 @@ static void try_crowded_two(void) {
 }
 
 static void try_most_names(void) {
-    for (uint8_t n = 2; n <= 8; n++) try_crowded(n);
+    for (uint8_t n = 2; n <= form.most; n++) try_crowded(n);
     try_crowded_two();
 }
 
@@ -320,6 +417,8 @@ int main(void) {
     try_not_milked();
     try_not_milked_after();
     try_places();
+    try_lengths();
+    try_marks();
     try_most_names();
     print_counts();
     return 0;

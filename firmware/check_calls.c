@@ -35,7 +35,7 @@ struct run copy(struct run from) {
 
 /* The bytes that pairs of digits stand for; blanks between pairs are skipped. */
 struct run from_hex(const char *hex) {
-    uint8_t bytes[512];
+    uint8_t bytes[1024];
     struct run run = {bytes, 0};
     unsigned byte;
     for (; *hex != '\0'; hex += *hex == ' ' ? 1 : 2) {
@@ -95,12 +95,25 @@ void fresh(uint32_t wanted, struct run image, uint8_t n, uint8_t stall) {
         after.bytes[1] = stall;
         memset(after.bytes + 2, 0xff, 2);
         form.write_no_names(after.bytes + 4, n);
-        memset(after.bytes + after.len - 3u * n, 0xff, 2u * n);
+        memset(after.bytes + yield_at(after, 1), 0xff, 2u * n);
     }
     expect(FRESH, wanted, form.fresh(image.bytes, image.len, n, stall), &before, 1);
     expect_bytes("image", after, image);
     give_back(before);
     give_back(after);
+}
+
+/* Request 2026-09: "From 9 up, an order byte becomes two bytes". */
+static size_t order_width(struct run image) { return image.bytes[0] < 9 ? 1 : 2; }
+
+size_t yield_at(struct run image, uint8_t stall) {
+    size_t n = image.bytes[0];
+    return image.len - order_width(image) * n - 2 * n + 2u * (stall - 1u);
+}
+
+size_t order_at(struct run image, uint8_t stall) {
+    size_t n = image.bytes[0];
+    return image.len - order_width(image) * (n + 1u - stall);
 }
 
 void put_yield(struct run image, size_t at, uint16_t yield) {
@@ -187,10 +200,15 @@ static void panel_and_refuse(struct run image, const char *lines) {
     give_back(bad);
 }
 
+/* The value of a digit; those after 9 are a to g. */
+static uint8_t value_of(char digit) {
+    return (uint8_t)(digit <= '9' ? digit - '0' : digit - 'a' + 10);
+}
+
 /* A byte for each of so many digits. */
 static struct run from_digits(const char *digits, size_t len) {
     struct run run = lend(len);
-    for (size_t i = 0; i < len; i++) run.bytes[i] = (uint8_t)(digits[i] - '0');
+    for (size_t i = 0; i < len; i++) run.bytes[i] = value_of(digits[i]);
     return run;
 }
 
@@ -261,8 +279,8 @@ static void try_examples(void) {
         check(number, image);
         heard(256 + (number == 0 ? 8 : number), image, 2, "");
         if (number != 0) heard(256 + number, image, 6, "");
-        reading_refused(SETTLED, form.settled, number == 0 ? 8 : number, image, 9);
-        for (size_t buffer = 0; number != 0 && buffer <= 8; buffer++) {
+        reading_refused(SETTLED, form.settled, number == 0 ? 8 : number, image, 17);
+        for (size_t buffer = 0; number != 0 && buffer <= 16; buffer++) {
             reading_refused(SETTLED, form.settled, number, image, buffer);
         }
         reading_refused(PANEL, form.panel, 256 + (number == 0 ? 8 : number), image, 9);
@@ -280,7 +298,7 @@ struct run fresh_of(uint8_t n, uint8_t stall) {
 }
 
 static void try_fresh(void) {
-    for (uint8_t n = 2; n <= 8; n++) {
+    for (uint8_t n = 2; n <= form.most; n++) {
         doing = "a fresh image";
         struct run image = lend(form.lengths[n]);
         fresh(3, image, n, 0);
@@ -289,7 +307,7 @@ static void try_fresh(void) {
             fresh(0, image, n, stall);
             check(0, image);
             heard(0, image, 3 * n, "");
-            settled(image, "00000000");
+            settled(image, "0000000000000000");
             panel(image, "");
         }
         panel_and_refuse(image, "");
@@ -298,7 +316,7 @@ static void try_fresh(void) {
     doing = "the order 1, 2, 3 of a fresh image";
     struct run image = lend(2);
     fresh(1, image, 1, 0);
-    fresh(1, image, 9, 0);
+    fresh(1, image, form.most + 1, 0);
     fresh(2, image, 2, 0);
     give_back(image);
 }
@@ -398,6 +416,30 @@ static const struct {
     {"eight of all kinds", 8, "010000 02ffff 0303e7 040012 05ffff 060012 0703e7 080000",
      "0303e7 0703e7 040012 060012 010000 080000 02ffff 05ffff",
      "1 3 99.9\n2 7 99.9\n3 4 1.8\n4 6 1.8\n5 1 0.0\n6 8 0.0\n7 2 -\n8 5 -\n"},
+    {"nine equal yields", 9, "010012 020012 030012 040012 050012 060012 070012 080012 090012",
+     "010012 020012 030012 040012 050012 060012 070012 080012 090012",
+     "1 1 1.8\n2 2 1.8\n3 3 1.8\n4 4 1.8\n5 5 1.8\n6 6 1.8\n7 7 1.8\n8 8 1.8\n9 9 1.8\n"},
+    {"a rank of two digits", 10,
+     "01ffff 020012 030012 040012 050012 060012 070012 080012 090012 0a0012",
+     "020012 030012 040012 050012 060012 070012 080012 090012 0a0012 01ffff",
+     "1 2 1.8\n2 3 1.8\n3 4 1.8\n4 5 1.8\n5 6 1.8\n6 7 1.8\n7 8 1.8\n8 9 1.8\n9 10 1.8\n10 1 -\n"},
+    {"stalls never heard between, of sixteen", 16, "020005 09ffff 0a0009 100005",
+     "0a0009 020005 100005 09ffff", "1 10 0.9\n2 2 0.5\n3 16 0.5\n4 9 -\n"},
+    {"sixteen in reverse, of all kinds", 16,
+     "01ffff 020000 030001 040009 05000a 060063 070064 0800ff "
+     "090100 0a0101 0b01ff 0c0200 0d0280 0e0300 0f03e6 1003e7",
+     "1003e7 0f03e6 0e0300 0d0280 0c0200 0b01ff 0a0101 090100 "
+     "0800ff 070064 060063 05000a 040009 030001 020000 01ffff",
+     "1 16 99.9\n2 15 99.8\n3 14 76.8\n4 13 64.0\n5 12 51.2\n6 11 51.1\n7 10 25.7\n8 9 25.6\n"
+     "9 8 25.5\n10 7 10.0\n11 6 9.9\n12 5 1.0\n13 4 0.9\n14 3 0.1\n15 2 0.0\n16 1 -\n"},
+    {"sixteen of the longest lines", 16,
+     "010064 0203e7 030064 0403e7 050064 0603e7 070064 0803e7 "
+     "090064 0a03e7 0b0064 0c03e7 0d0064 0e03e7 0f0064 1003e7",
+     "0203e7 0403e7 0603e7 0803e7 0a03e7 0c03e7 0e03e7 1003e7 "
+     "010064 030064 050064 070064 090064 0b0064 0d0064 0f0064",
+     "1 2 99.9\n2 4 99.9\n3 6 99.9\n4 8 99.9\n5 10 99.9\n6 12 99.9\n7 14 99.9\n8 16 99.9\n"
+     "9 1 10.0\n10 3 10.0\n11 5 10.0\n12 7 10.0\n13 9 10.0\n14 11 10.0\n15 13 10.0\n"
+     "16 15 10.0\n"},
 };
 
 enum { RANKINGS = sizeof rankings / sizeof rankings[0] };
@@ -414,8 +456,7 @@ static struct run image_with(uint8_t n, struct run records) {
     }
     struct run made = copy(image);
     for (size_t at = 0; at < records.len; at += 3) {
-        size_t yield = made.len - 3u * n + 2u * (records.bytes[at] - 1u);
-        memcpy(made.bytes + yield, records.bytes + at + 1, 2);
+        memcpy(made.bytes + yield_at(made, records.bytes[at]), records.bytes + at + 1, 2);
     }
     give_back(verdicts);
     shut_parlour(parlour);
@@ -426,17 +467,18 @@ static struct run image_with(uint8_t n, struct run records) {
 static void list_and_refuse(struct run image, uint32_t count, const char *ranking) {
     size_t right = 3u * image.bytes[0];
     heard(count, image, right, ranking);
-    for (size_t buffer = 0; buffer <= 30; buffer++) {
+    for (size_t buffer = 0; buffer <= 3 * WILBRYN_MOST_HEADS + 3; buffer++) {
         if (buffer != right) heard(256 + 8, image, buffer, "");
     }
     struct run bad = copy(image);
-    put_yield(bad, bad.len - right, 1000);
+    put_yield(bad, yield_at(bad, 1), 1000);
     heard(256 + 4, bad, right, "");
     give_back(bad);
 }
 
 static void try_rankings(void) {
     for (int i = 0; i < RANKINGS; i++) {
+        if (rankings[i].n > form.most) continue;
         doing = rankings[i].what;
         struct run records = from_hex(rankings[i].by_stall);
         struct run image = image_with(rankings[i].n, records);
@@ -454,7 +496,7 @@ static void try_rankings(void) {
                 {0, "020000", "1 2 0.0\n"}};
     struct run alone = from_hex(form.alone);
     for (int i = 0; i < 3; i++) {
-        put_yield(alone, alone.len - 3 * 3 + 2, ones[i].yield);
+        put_yield(alone, yield_at(alone, 2), ones[i].yield);
         list_and_refuse(alone, 1, ones[i].ranking);
         panel_and_refuse(alone, ones[i].lines);
     }
@@ -480,14 +522,19 @@ static void try_settled(void) {
     }
 }
 
-/* The lists to try: pairs of stalls; of each meeting the label, the verdicts, and the counts that
-   both heads then have. What document 01 does not write down follows from its definitions. So in
-   example 2.4: after 45 the meeting 12, the latest of stall 2, lies in the past of all five
-   latests; after 25 stall 2 has a newer latest, which lies in the past of two.
+/* The lists to try: pairs of stalls, with a to g for 10 to 16; of each meeting the label, the
+   verdicts, and the counts that both heads then have, in such digits too. What document 01 does not
+   write down follows from its definitions. So in example 2.4: after 45 the meeting 12, the latest
+   of stall 2, lies in the past of all five latests; after 25 stall 2 has a newer latest, which lies
+   in the past of two.
 
-   In the last two lists the count of stall 1 falls from N for a newer meeting of stall 1: head 3
-   then has the meeting 13, which head 2 lacks; head 4 hears in the meeting 24 of the second 12,
-   which head 3 lacks. */
+   In the lists that end in 13 and in 24 the count of stall 1 falls from N for a newer meeting of
+   stall 1: head 3 then has the meeting 13, which head 2 lacks; head 4 hears in the meeting 24 of
+   the second 12, which head 3 lacks.
+
+   In the last two lists head 1 meets the others in turn. When it has met k, its latest of a stall r
+   from 2 to k is the meeting of 1 and r, which lies in the past of the latests of 1 and of r to
+   k. */
 static const struct {
     uint8_t n;
     const char *meetings, *labels, *verdicts, *settled;
@@ -508,18 +555,36 @@ static const struct {
     {8, "87", "0", "00000000", "00000022"},
     {3, "12 23 13", "000", "000 110 022", "220 322 232"},
     {4, "12 23 34 12 24", "00010", "0000 1100 1110 0220 1122", "2200 3220 4322 2230 3232"},
+    {9, "29", "0", "000000000", "020000002"},
+    {9, "19 98 89", "001", "000000000 100000001 000000000", "200000002 300000022 300000022"},
+    {10, "12 13 14 15 16 17 18 19 1a", "000000000",
+     "0000000000 1100000000 1110000000 1111000000 1111100000 1111110000 1111111000 "
+     "1111111100 1111111110",
+     "2200000000 2320000000 2432000000 2543200000 2654320000 2765432000 2876543200 "
+     "2987654320 2a98765432"},
+    {16, "12 13 14 15 16 17 18 19 1a 1b 1c 1d 1e 1f 1g", "000000000000000",
+     "0000000000000000 1100000000000000 1110000000000000 1111000000000000 "
+     "1111100000000000 1111110000000000 1111111000000000 1111111100000000 "
+     "1111111110000000 1111111111000000 1111111111100000 1111111111110000 "
+     "1111111111111000 1111111111111100 1111111111111110",
+     "2200000000000000 2320000000000000 2432000000000000 2543200000000000 "
+     "2654320000000000 2765432000000000 2876543200000000 2987654320000000 "
+     "2a98765432000000 2ba9876543200000 2cba987654320000 2dcba98765432000 "
+     "2edcba9876543200 2fedcba987654320 2gfedcba98765432"},
 };
 
 enum { LISTS = sizeof lists / sizeof lists[0] };
 
 static void try_lists(void) {
     for (int i = 0; i < LISTS; i++) {
+        if (lists[i].n > form.most) continue;
         doing = lists[i].meetings;
         struct parlour parlour = open_parlour(lists[i].n);
         const char *pair = lists[i].meetings;
         for (uint8_t r = 1; r <= parlour.n; r++) milking(0, parlour.images[r], r);
         for (size_t at = 0; at < strlen(lists[i].labels); at++, pair += 3) {
-            struct run one = parlour.images[pair[0] - '0'], other = parlour.images[pair[1] - '0'];
+            struct run one = parlour.images[value_of(pair[0])];
+            struct run other = parlour.images[value_of(pair[1])];
             size_t from = at * (parlour.n + 1u);
             struct run verdicts = from_digits(lists[i].verdicts + from, parlour.n);
             meeting_either_way((uint32_t)(lists[i].labels[at] - '0'), one, other, verdicts);

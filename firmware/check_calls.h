@@ -22,8 +22,9 @@ struct example {
 
 /* The form that is checked: each check defines its own. */
 extern const struct form {
-    const char *says;  /* what it says when all is well */
-    size_t lengths[9]; /* by N */
+    const char *says;                       /* what it says when all is well */
+    uint8_t most;                           /* the most heads that it has images of */
+    size_t lengths[WILBRYN_MOST_HEADS + 1]; /* by N */
     void (*write_no_names)(uint8_t *names, uint8_t n);
     __typeof__(wilbryn_fresh) *fresh;
     __typeof__(wilbryn_check) *check;
@@ -65,18 +66,20 @@ void meeting(uint32_t wanted, struct run first, struct run second, struct run wa
 void meeting_refused(uint32_t number, struct run first, struct run second, size_t buffer);
 
 struct run fresh_of(uint8_t n, uint8_t stall);
+size_t yield_at(struct run image, uint8_t stall);
+size_t order_at(struct run image, uint8_t stall);
 void put_yield(struct run image, size_t at, uint16_t yield);
 
 struct parlour {
     uint8_t n;
-    struct run images[9]; /* from 1 */
+    struct run images[WILBRYN_MOST_HEADS + 1]; /* from 1 */
 };
 
 struct parlour open_parlour(uint8_t n);
 void shut_parlour(struct parlour parlour);
 
-/* Everything that the form's examples and document 01's lists say, with requests 2026-05, 2026-07
-   and 2026-08. */
+/* Everything that the form's examples and document 01's lists say, with requests 2026-05 and
+   2026-07 to 2026-09. */
 void try_form(void);
 
 void print_counts(void);

@@ -1,5 +1,5 @@
-/* The examples of document 01 packed by hand as request 2026-04 says, and those of requests
-   2026-05, 2026-07 and 2026-08, on the functions of wilbryn.h for packed images; and packing and
+/* The examples of document 01 packed by hand as request 2026-04 says, and those of requests 2026-05
+   and 2026-07 to 2026-09, on the functions of wilbryn.h for packed images; and packing and
    unpacking. */
 #include "check_calls.h"
 
@@ -25,6 +25,8 @@ static const struct example examples[] = {
     {"N = 1", "01", 1},
     {"empty", "", 1},
     {"N = 9", "09", 1},
+    {"N = 16", "10", 1},
+    {"N = 17", "11", 1},
     {"N = 0", "0001 ffff 0020 0020 ffffffff 0000", 1},
     {"too short", "0201", 2},
     {"a byte short", "0201 ffff 0020 0020 ffffffff 00", 2},
@@ -78,6 +80,7 @@ static void write_no_names(uint8_t *names, uint8_t n) {
 
 const struct form form = {
     .says = "check_packed.c: as request 2026-04 says",
+    .most = 8,
     .lengths = {[2] = 14, 22, 32, 44, 58, 74, 92},
     .write_no_names = write_no_names,
     .fresh = wilbryn_packed_fresh,
@@ -137,6 +140,8 @@ static void try_both_forms(void) {
 static const struct example not_packed[] = {
     {"empty", "", 1},
     {"N = 9", "09", 1},
+    {"N = 16", "10", 1},
+    {"N = 17", "11", 1},
     {"too short", "0201", 2},
     {"packed already", "0201 ffff 0020 0020 ffffffff 0000", 2},
     {"own stall 3", "0203 ffff 00000000 00000000 ffffffff 0000", 3},
@@ -165,6 +170,47 @@ static void try_conversions_of(enum call call, reading *convert, const struct ex
 static void try_conversions(void) {
     try_conversions_of(PACK, wilbryn_pack, not_packed);
     try_conversions_of(UNPACK, wilbryn_unpack, examples);
+}
+
+/* Of an image of so many heads a packed form could be thought to have one of these lengths: with
+   order entries of one byte or of two. All calls on such runs are number 1, whatever is in them. */
+static void try_as_packed(uint8_t n, struct run image) {
+    size_t lengths[] = {n * n + 3u * n + 4, n * n + 4u * n + 4, image.len};
+    for (int i = 0; i < 3; i++) {
+        struct run packed = lend(lengths[i]), good = fresh_of(8, 8);
+        fresh(1, packed, n, 1);
+        memset(packed.bytes, 0, packed.len);
+        memcpy(packed.bytes, image.bytes, 4);
+        check(1, packed);
+        milking(1, packed, 18);
+        heard(256 + 1, packed, 3u * n, "");
+        reading_refused(SETTLED, form.settled, 1, packed, n);
+        reading_refused(PANEL, form.panel, 256 + 1, packed, WILBRYN_PANEL_LENGTH);
+        reading_refused(UNPACK, wilbryn_unpack, 1, packed, image.len);
+        meeting_refused(1, packed, good, 8);
+        meeting_refused(1, good, packed, n);
+        reading_refused(PACK, wilbryn_pack, 1, image, lengths[i]);
+        give_back(good);
+        give_back(packed);
+    }
+}
+
+/* Request 2026-09: an image of 9 to 16 heads, which the plain calls take, is not packed, nor one
+   with a fault in its length, its stall or its marks. */
+static void try_over_eight(void) {
+    doing = "more heads than a packed table has";
+    for (uint8_t n = 9; n <= 16; n++) {
+        struct run image = lend(WILBRYN_IMAGE_LENGTH(n));
+        expect(FRESH, 0, wilbryn_fresh(image.bytes, image.len, n, n), &image, 1);
+        expect(CHECK, 0, wilbryn_check(image.bytes, image.len), &image, 1);
+        try_as_packed(n, image);
+        try_as_packed(n, part(image, 0, image.len - 1));
+        image.bytes[image.len - 1] = 1;
+        try_as_packed(n, image);
+        image.bytes[1] = 0;
+        try_as_packed(n, image);
+        give_back(image);
+    }
 }
 
 static void try_fresh_bytes(void) {
@@ -224,6 +270,7 @@ int main(void) {
     try_fresh_bytes();
     try_both_forms();
     try_conversions();
+    try_over_eight();
     try_room();
     print_counts();
     return 0;

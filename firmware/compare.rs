@@ -13,9 +13,10 @@ mod singles;
 #[allow(dead_code)]
 mod tally;
 
-use calls::{share_of, Counts, Labels, PLAIN};
+use calls::{hex, share_of, Counts, Labels, PLAIN};
 use images::{edge_labels, twin, Random, EDGES};
-use model::{label_limit, Name, Table};
+use model::{label_limit, order_width, Form, Name, Table, LEAST, MOST};
+use std::process::exit;
 
 const SEED: u64 = 0x5eed_0001;
 
@@ -49,13 +50,11 @@ fn edges_of(random: &mut Random, counts: &mut Counts, table: &Table) {
 
 /// Fresh and other accepted images of every size, so often, with each yield at an edge.
 fn edges(random: &mut Random, counts: &mut Counts, rounds: usize) {
-    for n in 2..=8 {
-        for _ in 0..rounds {
-            let stall = random.stall(n);
-            let other = images::accepted(random, n, stall);
-            edges_of(random, counts, &Table::fresh(n, stall));
-            edges_of(random, counts, &other);
-        }
+    for n in (LEAST..=MOST).flat_map(|n| vec![n; rounds]) {
+        let stall = random.stall(n);
+        let other = images::accepted(random, n, stall);
+        edges_of(random, counts, &Table::fresh(n, stall));
+        edges_of(random, counts, &other);
     }
 }
 
@@ -89,13 +88,17 @@ fn try_label(
     }
 }
 
-/// Images of every size with a name in every place, so often, with each label at an edge in each.
+/// Images of every size with a name in every place, so often, with each label at an edge in each; in
+/// large ones, where few calls are to be made, in some.
 fn labels(random: &mut Random, counts: &mut Counts, rounds: usize) -> Tried {
     let mut tried = Tried::default();
-    for n in (2..=8).flat_map(|n| vec![n; rounds]) {
+    for n in (LEAST..=MOST).flat_map(|n| vec![n; rounds]) {
         let stall = random.stall(n);
         let table = images::full(random, n, stall);
         for (s, r) in (1..=n).flat_map(|s| (1..=n).map(move |r| (s, r))) {
+            if n > 8 && random.below(1_000) >= share_of(1_000).max(100) {
+                continue;
+            }
             for label in edge_labels(n) {
                 try_label(random, counts, &mut tried, table.clone(), (s, r, label));
             }
@@ -106,7 +109,7 @@ fn labels(random: &mut Random, counts: &mut Counts, rounds: usize) -> Tried {
 
 /// Of each size the labels up to the limit were taken, and the one above was refused.
 fn require_labels(tried: &Tried) {
-    for n in 2..=8 {
+    for n in LEAST..=MOST {
         let limit = label_limit(n);
         let [below, at, above] = [limit - 1, limit, limit + 1];
         print!("  {n} heads: label {below} taken {} times, ", tried.taken.of(n, below));
@@ -128,19 +131,73 @@ fn pairs_of(bytes: &[u8]) -> impl Iterator<Item = (u8, u8)> + '_ {
     bytes.iter().flat_map(move |&first| bytes.iter().map(move |&second| (first, second)))
 }
 
-/// Accepted images of every size, so often, with each two such bytes side by side in each place: no
-/// byte may show in the judgement of its neighbour.
-fn neighbours(random: &mut Random, counts: &mut Counts, rounds: usize) {
-    for n in (2..=8).flat_map(|n| vec![n; rounds]) {
+/// Accepted images of every size with each two such bytes side by side in each place, so many in a
+/// thousand: no byte may show in the judgement of its neighbour.
+fn neighbours(random: &mut Random, counts: &mut Counts, share: usize) {
+    for n in LEAST..=MOST {
         let stall = random.stall(n);
         let image = images::accepted(random, n, stall).to_bytes();
         for at in 2..image.len() - 1 {
             for (first, second) in pairs_of(&edge_bytes(n)) {
+                if random.below(1_000) >= share {
+                    continue;
+                }
                 let mut changed = image.clone();
                 changed[at] = first;
                 changed[at + 1] = second;
                 PLAIN.check(counts, &changed);
             }
+        }
+    }
+}
+
+/// Ends the run unless an image is refused with this number, or taken where it is 0.
+fn expect_number(counts: &mut Counts, wanted: u32, image: &[u8]) {
+    let number = PLAIN.check(counts, image);
+    if number != wanted {
+        println!("number {number}, not {wanted}: {}", hex(image));
+        exit(1);
+    }
+}
+
+/// The length of an image with order entries of so many bytes.
+fn length_with(n: usize, width: usize) -> usize {
+    Form::Plain.orders_at(n) + width * n
+}
+
+/// Fresh images and their buffers, of every size and with every other N, or some, cut off or made
+/// longer to lengths next to the right one of each size, be order entries of one byte or of two.
+fn lengths(counts: &mut Counts) {
+    let of_size = |n| [1, 2].map(|width| length_with(n, width));
+    let near = |len: usize| [len - 1, len, len + 1];
+    let lens: Vec<usize> = (LEAST..=MOST).flat_map(of_size).flat_map(near).chain([0, 1]).collect();
+    for n in (0..=255).filter(|&n| share_of(256) == 256 || n < MOST + 3 || n == 255) {
+        let is_size = Form::Plain.sizes().contains(&n);
+        let fresh = Table::fresh(n.clamp(LEAST, MOST), 1).to_bytes();
+        for &len in &lens {
+            let mut image = fresh.clone();
+            image.resize(len, 0);
+            PLAIN.fresh(counts, &image, n as u8, 1);
+            image.iter_mut().take(1).for_each(|first| *first = n as u8);
+            let is_right = is_size && len == length_with(n, order_width(n));
+            let number = if !is_size || len == 0 { 1 } else { 2 };
+            expect_number(counts, if is_right { 0 } else { number }, &image);
+        }
+    }
+}
+
+/// Heads that have heard of all stalls, so often of every size, with each bit of each order entry
+/// the other way: a mark that check 6 asks for, one of those that may be there or not, or one above
+/// N.
+fn marks(random: &mut Random, counts: &mut Counts, rounds: usize) {
+    for n in (LEAST..=MOST).flat_map(|n| vec![n; rounds]) {
+        let stall = random.stall(n);
+        let table = images::full(random, n, stall);
+        for (r, s) in (1..=n).flat_map(|r| (1..=8 * order_width(n)).map(move |s| (r, s))) {
+            let mut changed = table.clone();
+            changed.order[r] ^= 1 << (s - 1);
+            let must_stay = s == r || s == stall || s > n;
+            expect_number(counts, if must_stay { 6 } else { 0 }, &changed.to_bytes());
         }
     }
 }
@@ -162,12 +219,14 @@ fn main() {
     println!("compare: seed {SEED:#x}");
     let mut random = Random(SEED);
     let mut counts = Counts::default();
-    for _ in 0..share_of(100_000) {
+    for _ in 0..share_of(70_000) {
         singles::call_each(&mut random, &PLAIN, &mut counts);
     }
-    edges(&mut random, &mut counts, share_of(50).max(1));
-    let tried = labels(&mut random, &mut counts, share_of(50).max(1));
-    neighbours(&mut random, &mut counts, share_of(8).max(1));
+    edges(&mut random, &mut counts, share_of(12).max(1));
+    let tried = labels(&mut random, &mut counts, share_of(5).max(1));
+    neighbours(&mut random, &mut counts, share_of(1_000));
+    lengths(&mut counts);
+    marks(&mut random, &mut counts, share_of(50).max(1));
     all_yields(&mut counts);
     heard::compare(&mut random, &PLAIN, &mut counts, share_of(1_000));
     counts.print();

@@ -3,6 +3,7 @@
 use crate::images::{self, Random};
 use crate::model::{Table, NOT_MILKED};
 use crate::tally::Tally;
+use std::ops::RangeInclusive;
 
 /// What is counted and required. Not milked is among milked where a milked stall has a higher
 /// number.
@@ -22,11 +23,20 @@ pub type Yields = Vec<Option<u16>>;
 const KINDS: [Option<u16>; 8] =
     [None, Some(NOT_MILKED), Some(0), Some(999), Some(255), Some(256), Some(1), Some(512)];
 
-/// How many of these each stall has in turn, by number of heads: as many as are soon done.
-const KINDS_OF: [usize; 9] = [0, 0, 8, 8, 8, 8, 8, 6, 5];
+/// How many of these each stall has, by number of heads: as many as are soon tried in turn.
+fn kinds_of(n: usize) -> usize {
+    match n {
+        7 => 6,
+        8 => 5,
+        _ => KINDS.len(),
+    }
+}
 
-/// By rising yield, for every order of stalls that differ in it.
-const RISING: [u16; 8] = [0, 1, 7, 255, 256, 511, 512, 999];
+/// A different one for each of so many stalls, 0 among them.
+const DIFFERENT: [u16; 16] = [0, 1, 7, 255, 256, 511, 512, 999, 9, 10, 99, 100, 257, 640, 768, 998];
+
+/// The most heads of which all are tried in turn.
+const MOST_IN_TURN: usize = 8;
 
 /// A head that has this, whatever else it has.
 fn head(random: &mut Random, yields: &Yields) -> Table {
@@ -70,34 +80,43 @@ fn draw(random: &mut Random, n: usize) -> Yields {
     (1..=n).map(draw_one).collect()
 }
 
-/// Each of the kinds for each stall: so many in a thousand of these, or all if they are few.
+/// Numbers of such heads, of this many that there are: so many in a thousand, or all if they are few;
+/// of large parlours some are drawn.
+fn numbers(random: &mut Random, n: usize, all: usize, share: usize) -> Vec<usize> {
+    if n > MOST_IN_TURN {
+        return (0..10 * share).map(|_| random.below(all)).collect();
+    }
+    (0..all).filter(|_| all < 1_000 || random.below(1_000) < share).collect()
+}
+
+/// Each of the kinds for each stall.
 fn each_kind(random: &mut Random, n: usize, share: usize, each: &mut impl FnMut(&Table)) {
-    let kinds = KINDS_OF[n];
-    let all = kinds.pow(n as u32);
-    for number in 0..all {
-        if all < 1_000 || random.below(1_000) < share {
-            let kind = |r: u32| KINDS[number / kinds.pow(r) % kinds];
-            each(&head(random, &(0..n as u32).map(kind).collect()));
-        }
+    let kinds = kinds_of(n);
+    for number in numbers(random, n, kinds.pow(n as u32), share) {
+        let kind = |r: u32| KINDS[number / kinds.pow(r) % kinds];
+        each(&head(random, &(0..n as u32).map(kind).collect()));
     }
 }
 
-/// Each order of stalls that differ in their yields, the lowest of these milked or not: so many in
-/// a thousand.
+/// Each order of stalls that differ in their yields, the lowest of these milked or not.
 fn each_order(random: &mut Random, n: usize, share: usize, each: &mut impl FnMut(&Table)) {
-    for number in 0..(1..=n).product() {
-        if random.below(1_000) < share {
-            let mut rising = RISING;
-            rising[0] = random.pick(&[0, NOT_MILKED]);
-            each(&head(random, &order(n, number).map(|place| Some(rising[place])).collect()));
-        }
+    for number in numbers(random, n, (1..=n).product(), share) {
+        let mut rising = DIFFERENT[..n].to_vec();
+        rising.sort();
+        rising[0] = random.pick(&[0, NOT_MILKED]);
+        each(&head(random, &order(n, number).map(|place| Some(rising[place])).collect()));
     }
 }
 
-/// So many in a thousand of all these heads, and of those that are drawn enough for each thing to
-/// come up.
-pub fn each_head(random: &mut Random, share: usize, mut each: impl FnMut(&Table)) {
-    for n in 2..=8 {
+/// So many in a thousand of all these heads in parlours of these sizes, and of those that are drawn
+/// enough for each thing to come up.
+pub fn each_head(
+    random: &mut Random,
+    sizes: RangeInclusive<usize>,
+    share: usize,
+    mut each: impl FnMut(&Table),
+) {
+    for n in sizes {
         each_kind(random, n, share, &mut each);
         each_order(random, n, share, &mut each);
         for _ in 0..(5 * share).max(50) {
@@ -128,9 +147,9 @@ pub fn note(tally: &mut Tally, yields: &Yields) {
     shown.iter().for_each(|&(kind, is_so)| tally.add(kind, n, is_so as usize));
 }
 
-/// Ends the run if one of these things never came up with some number of heads.
-pub fn require(tally: &Tally) {
+/// Ends the run if one of these things never came up with one of these numbers of heads.
+pub fn require(tally: &Tally, sizes: RangeInclusive<usize>) {
     for kind in [HEADS, OF_ONE, EQUAL, DRY, AMONG, NONE_MILKED, REVERSED] {
-        tally.require(kind, 2..=8);
+        tally.require(kind, sizes.clone());
     }
 }

@@ -39,12 +39,12 @@ fn expect_ranking(yields: &Yields, outcome: &Outcome) {
 /// So many in a thousand of all these lists. No byte of a buffer is zero before.
 pub fn compare(random: &mut Random, calls: &Calls, counts: &mut Counts, share: usize) {
     let mut tally = Tally::default();
-    heads::each_head(random, share, |table| {
+    heads::each_head(random, calls.form.sizes(), share, |table| {
         let outcome = calls.heard(counts, &calls.form.bytes(table), &vec![0xee; 3 * table.n]);
         let yields = heads::yields_of(table);
         expect_ranking(&yields, &outcome);
         heads::note(&mut tally, &yields);
     });
     tally.print();
-    heads::require(&tally);
+    heads::require(&tally, calls.form.sizes());
 }

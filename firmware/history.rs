@@ -1,6 +1,6 @@
 //! What a list leaves, read from its items alone: no image and no answer is looked at here.
 
-use crate::model::{Name, Table, NONE, NOT_MILKED};
+use crate::model::{Name, Table, NONE, NOT_MILKED, STALLS};
 use std::cmp::Ordering;
 
 /// How a history knows what lies in a past.
@@ -23,7 +23,7 @@ pub struct Event {
     /// pasts are counted.
     past: Vec<bool>,
     /// The newest meeting of each stall in the past of this one.
-    newest: [Option<usize>; 9],
+    newest: [Option<usize>; STALLS],
 }
 
 impl Event {
@@ -37,14 +37,15 @@ pub struct History {
     pasts: Pasts,
     events: Vec<Event>,
     /// The last meeting of each head.
-    last: [Option<usize>; 9],
+    last: [Option<usize>; STALLS],
     /// The yield of each head's last milking that counts, or not milked.
-    current: [u16; 9],
+    current: [u16; STALLS],
 }
 
 impl History {
     pub fn new(n: usize, pasts: Pasts) -> History {
-        History { n, pasts, events: Vec::new(), last: [None; 9], current: [NOT_MILKED; 9] }
+        let (last, current) = ([None; STALLS], [NOT_MILKED; STALLS]);
+        History { n, pasts, events: Vec::new(), last, current }
     }
 
     pub fn milking(&mut self, stall: usize, new: u16) {
@@ -90,7 +91,7 @@ impl History {
             label: self.label(first, second),
             yields: [self.current[first], self.current[second]],
             past: Vec::new(),
-            newest: [None; 9],
+            newest: [None; STALLS],
         };
         if let Pasts::Listed = self.pasts {
             event.past = self.past(first, second);

@@ -1,7 +1,8 @@
 //! Random images: accepted ones that come from no list, related pairs of them, and damaged ones;
 //! and every accepted image of 2 heads.
 
-use crate::model::{label_limit, Form, Name, Table, NONE, NOT_MILKED};
+use crate::model::{label_limit, order_width, Form, Name, Table};
+use crate::model::{NONE, NOT_MILKED, STALLS};
 use std::iter::once;
 
 /// Yields on both sides of each limit, and those that a reader of one byte, of a signed number or of
@@ -55,8 +56,9 @@ impl Random {
         (0..len).map(|_| self.byte()).collect()
     }
 
-    pub fn size(&mut self) -> usize {
-        2 + self.below(7)
+    /// A size that images of a form have.
+    pub fn size(&mut self, form: Form) -> usize {
+        form.sizes().start() + self.below(form.sizes().count())
     }
 
     pub fn stall(&mut self, n: usize) -> usize {
@@ -127,9 +129,9 @@ fn name(random: &mut Random, n: usize, column: usize, labels: usize) -> Name {
 /// Fills the rows, yields and marks that the own row leaves open, by any values that are accepted.
 fn fill(random: &mut Random, table: &mut Table, style: &Style) {
     let (n, own) = (table.n, *table.own_row());
-    table.rows = [[NONE; 9]; 9];
+    table.rows = [[NONE; STALLS]; STALLS];
     table.rows[table.stall] = own;
-    table.order = [0; 9];
+    table.order = [0; STALLS];
     draw_yields(random, table);
     for s in (1..=n).filter(|&s| own[s] != NONE) {
         for r in (1..=n).filter(|_| s != table.stall) {
@@ -169,7 +171,7 @@ pub fn accepted(random: &mut Random, n: usize, stall: usize) -> Table {
     let style = style(random, n);
     let mut table = with_own_row(random, n, stall, &style);
     if random.percent(5) {
-        table.rows[stall] = [NONE; 9];
+        table.rows[stall] = [NONE; STALLS];
     }
     fill(random, &mut table, &style);
     table
@@ -195,10 +197,10 @@ pub fn full(random: &mut Random, n: usize, stall: usize) -> Table {
     table
 }
 
-/// Two accepted images from no list that have meetings in common. For most stalls one side's latest
-/// is made known to the other, so that many pairs are accepted.
-pub fn related(random: &mut Random) -> (Table, Table) {
-    let n = random.size();
+/// Two accepted images from no list that have meetings in common, of a size that a form has. For
+/// most stalls one side's latest is made known to the other, so that many pairs are accepted.
+pub fn related(random: &mut Random, form: Form) -> (Table, Table) {
+    let n = random.size(form);
     related_of(random, n)
 }
 
@@ -220,11 +222,11 @@ pub fn related_of(random: &mut Random, n: usize) -> (Table, Table) {
     (first, second)
 }
 
-/// An accepted image to meet the one given: of the same stall, or of any size, which is mostly
-/// another.
-pub fn mismatch(random: &mut Random, table: &Table) -> Table {
+/// An accepted image to meet the one given: of the same stall, or of any size of a form, which is
+/// mostly another.
+pub fn mismatch(random: &mut Random, form: Form, table: &Table) -> Table {
     let same_n = random.percent(50);
-    let n = if same_n { table.n } else { random.size() };
+    let n = if same_n { table.n } else { random.size(form) };
     let stall = if same_n { table.stall } else { random.stall(n) };
     accepted(random, n, stall)
 }
@@ -444,20 +446,19 @@ pub fn damage(random: &mut Random, form: Form, image: &mut Vec<u8>) {
 
 fn damage_once(random: &mut Random, form: Form, image: &mut Vec<u8>) {
     let n = image.first().map_or(0, |&n| n as usize);
-    if !(2..=8).contains(&n) || image.len() != form.length(n) {
+    if !form.sizes().contains(&n) || image.len() != form.length(n) {
         return;
     }
-    let yields = 4 + form.name_len() * n * n;
-    let order = yields + 2 * n;
+    let (yields, orders) = (form.yields_at(n), form.orders_at(n));
     match random.below(12) {
-        0 => image[0] = random.pick(&[0, 1, 2, 3, 7, 8, 9, 255]),
+        0 => image[0] = random.pick(&[0, 1, 2, 3, 7, 8, 9, 10, 15, 16, 17, 255]),
         1 => image.truncate(random.below(form.length(n))),
         2 => image.extend(vec![0; 1 + random.below(40)]),
         3 => image[1] = random.pick(&[0, 1, n as u8, n as u8 + 1, 255]),
         4 => write_yield(image, 2, random.any_yield()),
         5 | 6 => write_yield(image, yields + 2 * random.below(n), random.any_yield()),
         7..=9 => damage_name(random, form, n, &mut image[4..yields]),
-        10 => image[order + random.below(n)] ^= 1 << random.below(8),
+        10 => damage_order(random, n, &mut image[orders..]),
         _ => {
             let at = random.below(image.len());
             image[at] = random.byte();
@@ -478,6 +479,16 @@ fn damage_name(random: &mut Random, form: Form, n: usize, names: &mut [u8]) {
         (0, Form::Packed) => names[at] = 32 * random.below(8) as u8 + names[at] % 32,
         (1, Form::Packed) => names[at] = names[at] / 32 * 32 + random.below(32) as u8,
         (_, Form::Packed) => names[at] = 32 * (partner - 1) + label,
+    }
+}
+
+/// Another mark in one of the order entries, or its bytes in the other order.
+fn damage_order(random: &mut Random, n: usize, orders: &mut [u8]) {
+    let width = order_width(n);
+    let entry = &mut orders[width * random.below(n)..][..width];
+    match random.below(3) {
+        0 => entry.reverse(),
+        _ => entry[random.below(width)] ^= 1 << random.below(8),
     }
 }
 

@@ -1,6 +1,6 @@
-/* The line program of document 01 with request 2026-05 in plain C over plain.c, unproved: the
-   baseline of the benchmark. It reads frames from standard input, one a line, and answers each with
-   a line. */
+/* The line program of document 01 with requests 2026-05 and 2026-09 in plain C over plain.c,
+   unproved: the baseline of the benchmark. It reads frames from standard input, one a line, and
+   answers each with a line. */
 #include "wilbryn.h"
 
 #include <errno.h>
@@ -15,7 +15,7 @@ extern __typeof__(wilbryn_heard) plain_heard;
 extern __typeof__(wilbryn_settled) plain_settled;
 extern __typeof__(wilbryn_meeting) plain_meeting;
 
-enum { BLOCK = 1 << 16, MOST = 8, LONGEST_IMAGE = WILBRYN_IMAGE_LENGTH(MOST) };
+enum { BLOCK = 1 << 16, MOST = WILBRYN_MOST_HEADS, LONGEST_IMAGE = WILBRYN_IMAGE_LENGTH(MOST) };
 
 /* The digits of a milking, and those of an image of the largest parlour with 00 and a newline. */
 enum { LONGEST_FRAME = 8, LONGEST_ANSWER = 2 + 2 * LONGEST_IMAGE + 1 };

@@ -12,6 +12,7 @@ mod sessions;
 
 use answers::{answers, lines, Answer, Lines, OF_HEARD};
 use images::Random;
+use model::{Form, LEAST, MOST};
 use program::{run_with_stops, Run};
 use std::process::exit;
 use std::thread;
@@ -224,20 +225,20 @@ fn all_values(test: &mut Test) {
     test.run("all kinds", &sessions::all_kinds());
     test.run("all pairs of bytes", &sessions::all_pairs());
     test.run("all yields", &sessions::all_yields());
-    for n in 2..=8 {
+    for n in LEAST..=MOST {
         test.run("all openings", &sessions::all_openings(n));
     }
-    for n in [2, 8] {
+    for n in [2, 8, 16] {
         test.run("all pairs of stalls", &sessions::all_meetings(n));
     }
 }
 
 fn long_sessions(test: &mut Test, random: &mut Random) {
-    for n in 2..=8 {
-        test.run("a long session", &sessions::session(random, n, 100_000, 0));
-        test.run("a long session with odd lines", &sessions::session(random, n, 100_000, 30));
+    for n in LEAST..=MOST {
+        test.run("a long session", &sessions::session(random, n, 30_000, 0));
+        test.run("a long session with odd lines", &sessions::session(random, n, 30_000, 30));
     }
-    let longest = [b"0108\n", &b"0408\n".repeat(20_000)[..]].concat();
+    let longest = [b"0110\n", &b"0410\n".repeat(6_000)[..]].concat();
     test.run("the longest answers", &longest);
     test.stop_and_go("the longest answers, their writes cut short", &longest);
     test.run("long lines", &sessions::long_lines(random));
@@ -249,7 +250,7 @@ fn long_sessions(test: &mut Test, random: &mut Random) {
 fn short_sessions(test: &mut Test, random: &mut Random) {
     for _ in 0..200 {
         for odd in [0, 10, 50, 100] {
-            let (n, count) = (random.size(), random.below(60));
+            let (n, count) = (random.size(Form::Plain), random.below(60));
             test.run("a short session", &sessions::session(random, n, count, odd));
         }
         test.run("noise", &sessions::noise(random));
@@ -269,13 +270,13 @@ fn cut<'a>(mut input: &'a [u8], mut draw: impl FnMut() -> usize) -> Vec<&'a [u8]
 
 /// Nothing may be held back while the program waits for input.
 fn conversations(test: &mut Test, random: &mut Random) {
-    for odd in [0, 20] {
-        let input = sessions::session(random, 8, 300, odd);
+    for (n, odd) in [(8, 0), (8, 20), (16, 0), (16, 20)] {
+        let input = sessions::session(random, n, 300, odd);
         let by_line = input.split_inclusive(|&c| c == b'\n');
         test.converse("line by line", by_line);
         test.converse("byte by byte", input[..800].chunks(1));
         test.converse("part by part", cut(&input, || 1 + random.below(12)).into_iter());
-        let input = sessions::session(random, 8, 20_000, odd);
+        let input = sessions::session(random, n, 10_000, odd);
         test.converse("burst by burst", cut(&input, || random.below(8_000)).into_iter());
         test.converse("page by page", input.chunks(4_096));
         test.converse("block by block", input.chunks(65_536));

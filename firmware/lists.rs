@@ -2,6 +2,7 @@
 
 use crate::calls::{hex, Outcome, Run};
 use crate::images::Random;
+use crate::model::STALLS;
 use crate::pairs::{next_pair, WAYS};
 use crate::parlour::{Parlour, Seen};
 use crate::tally::LONG;
@@ -169,7 +170,7 @@ pub fn by_turns(random: &mut Random, n: usize, list: &[Item]) -> Order {
 /// Where those are among the items left, given by rising place, that share no head with one before.
 fn ready(n: usize, list: &[Item], left: &[usize]) -> Vec<usize> {
     let mut ready = Vec::new();
-    let mut waiting = [false; 9];
+    let mut waiting = [false; STALLS];
     for (at, &place) in left.iter().enumerate() {
         let heads = list[place].heads();
         if heads.iter().all(|&head| !waiting[head]) {

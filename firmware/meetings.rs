@@ -13,7 +13,7 @@ mod parlour;
 use calls::{hex, share_of, Counts, Run, PLAIN};
 use history::{History, Pasts};
 use images::{Random, EDGES};
-use model::{label_limit, Form, Table};
+use model::{label_limit, Form, Table, LEAST, MOST};
 use pairs::{next_pair, Way, WAYS};
 use parlour::{buffer, Parlour, Seen};
 use std::process::exit;
@@ -27,7 +27,7 @@ fn run_lists(
 ) {
     let mut done = 0;
     while done < steps {
-        let n = random.size();
+        let n = random.size(Form::Plain);
         let mut parlour = Parlour::open(random, n, seen);
         for age in 0..(20 + random.below(180)).min(steps - done) {
             parlour.step(random, seen);
@@ -68,7 +68,7 @@ fn shaken(random: &mut Random, seen: &mut Seen, steps: usize) {
 /// Accepted images from no list.
 fn loose(random: &mut Random, seen: &mut Seen, steps: usize) {
     for _ in 0..steps {
-        let (first, second) = images::related(random);
+        let (first, second) = images::related(random, Form::Plain);
         let verdicts = buffer(random, first.n, 3);
         seen.meet("from no list", &first.to_bytes(), &second.to_bytes(), &verdicts);
     }
@@ -77,9 +77,9 @@ fn loose(random: &mut Random, seen: &mut Seen, steps: usize) {
 /// Damaged images, one or both, and pairs that fit in all but N or stall.
 fn damaged(random: &mut Random, seen: &mut Seen, steps: usize) {
     for _ in 0..steps {
-        let (first, second) = images::related(random);
+        let (first, second) = images::related(random, Form::Plain);
         let verdicts = buffer(random, first.n, 10);
-        let odd = images::mismatch(random, &first).to_bytes();
+        let odd = images::mismatch(random, Form::Plain, &first).to_bytes();
         let (mut first, mut second) = (first.to_bytes(), second.to_bytes());
         match random.below(4) {
             0 => images::damage(random, Form::Plain, &mut first),
@@ -97,7 +97,7 @@ fn damaged(random: &mut Random, seen: &mut Seen, steps: usize) {
 /// Images from no list, one of them with a yield at an edge in one place.
 fn edges(random: &mut Random, seen: &mut Seen, steps: usize) {
     for _ in 0..steps {
-        let (mut first, mut second) = images::related(random);
+        let (mut first, mut second) = images::related(random, Form::Plain);
         let verdicts = buffer(random, first.n, 3);
         let one = if random.percent(50) { &mut first } else { &mut second };
         let place = random.below(one.n + 1);
@@ -108,11 +108,11 @@ fn edges(random: &mut Random, seen: &mut Seen, steps: usize) {
 }
 
 /// Images from no list whose pair has as many names as there can be, each label in turn the lowest
-/// free one. Of 2 heads all images meet instead.
+/// free one, often enough for each to be answered. Of 2 heads all images meet instead.
 fn used_up(random: &mut Random, seen: &mut Seen, steps: usize) {
     let labels = |n| (0..=label_limit(n)).map(move |lowest| (n, lowest as u8));
-    let turns: Vec<(usize, u8)> = (3..=8).flat_map(labels).collect();
-    for step in 0..steps {
+    let turns: Vec<(usize, u8)> = (3..=MOST).flat_map(labels).collect();
+    for step in 0..steps.max(12 * turns.len()) {
         let (n, lowest) = turns[step % turns.len()];
         let (first, second) = images::used_up(random, n, lowest);
         let (first, second) = (first.to_bytes(), second.to_bytes());
@@ -131,6 +131,9 @@ const IMAGES_OF_TWO: usize = 1 + 7 + 7 * 7 * 8 * 2;
 
 /// Every image of one with every image of the other, each of them first once.
 const PAIRS_OF_TWO: usize = 2 * IMAGES_OF_TWO * IMAGES_OF_TWO;
+
+/// The sizes of parlours that run for ten years, and the kinds of their meetings.
+const TEN_YEARS: [(usize, &str); 2] = [(8, "ten years of 8"), (16, "ten years of 16")];
 
 /// The kinds of these pairs: by whether their names are all different.
 const SIX_NAMES: &str = "2 heads, six names";
@@ -167,10 +170,10 @@ fn with_labels(table: &Table) -> (Vec<u8>, u8) {
 
 /// Lists of every size against their whole history: each answer, and each byte of each image.
 fn against_history(random: &mut Random, seen: &mut Seen, items: usize) {
-    for n in 2..=8 {
+    for n in LEAST..=MOST {
         let mut parlour = Parlour::open(random, n, seen);
         let mut history = History::new(n, Pasts::Listed);
-        for item in 0..items / 7 {
+        for item in 0..items / Form::Plain.sizes().count() {
             if item % 150 == 149 {
                 parlour = Parlour::open(random, n, seen);
                 history = History::new(n, Pasts::Listed);
@@ -180,36 +183,45 @@ fn against_history(random: &mut Random, seen: &mut Seen, items: usize) {
             } else {
                 history_meeting(random, seen, "against history", &mut parlour, &mut history);
             }
-            expect_left(&parlour, &history);
+            expect_all_left(&parlour, &history);
         }
     }
 }
 
-/// Ten years of a parlour of 8 against unbounded counters: each answer, and each byte of each image.
+/// Ten years of a parlour of 8 and of one of 16 against unbounded counters: each answer, and each
+/// byte of each image that a call was lent; now and then all images.
 fn ten_years(random: &mut Random, seen: &mut Seen, meetings: usize) {
-    let mut parlour = Parlour::open(random, 8, seen);
-    let mut history = History::new(8, Pasts::Counted);
-    for age in 0..meetings {
-        if age % 1000 == 0 {
-            parlour.way = random.pick(&WAYS);
+    for (n, kind) in TEN_YEARS {
+        let mut parlour = Parlour::open(random, n, seen);
+        let mut history = History::new(n, Pasts::Counted);
+        for age in 0..meetings {
+            if age % 1000 == 0 {
+                parlour.way = random.pick(&WAYS);
+            }
+            while random.percent(40) {
+                history_milking(random, seen, &mut parlour, &mut history);
+            }
+            history_meeting(random, seen, kind, &mut parlour, &mut history);
+            if age % 16 == 0 {
+                expect_all_left(&parlour, &history);
+            }
         }
-        while random.percent(40) {
-            history_milking(random, seen, &mut parlour, &mut history);
-        }
-        history_meeting(random, seen, "ten years", &mut parlour, &mut history);
-        expect_left(&parlour, &history);
+        expect_all_left(&parlour, &history);
+    }
+}
+
+/// The image of a head is what the list leaves.
+fn expect_left(parlour: &Parlour, history: &History, head: usize) {
+    let wanted = history.table(head).to_bytes();
+    if *parlour.images[head] != wanted {
+        println!("history: {}", hex(&wanted));
+        parlour.fail(&format!("image {head} is not what the list leaves"));
     }
 }
 
 /// Every image, and what its names stand for, is what the list leaves.
-fn expect_left(parlour: &Parlour, history: &History) {
-    for head in 1..=parlour.n {
-        let wanted = history.table(head).to_bytes();
-        if *parlour.images[head] != wanted {
-            println!("history: {}", hex(&wanted));
-            parlour.fail(&format!("image {head} is not what the list leaves"));
-        }
-    }
+fn expect_all_left(parlour: &Parlour, history: &History) {
+    (1..=parlour.n).for_each(|head| expect_left(parlour, history, head));
     parlour.expect_clear_names(|head, r| history.latest(head, r).unwrap());
 }
 
@@ -227,6 +239,7 @@ fn history_milking(
     if counts {
         history.milking(stall, new);
     }
+    expect_left(parlour, history, stall);
 }
 
 fn history_meeting(
@@ -243,6 +256,7 @@ fn history_meeting(
         if outcome.answer != 256 + 8 {
             parlour.fail("a meeting that does not count is not refused with 8");
         }
+        [a, b].iter().for_each(|&head| expect_left(parlour, history, head));
         return;
     }
     let verdicts: Vec<u8> = (1..=parlour.n).map(|r| history.verdict(a, b, r)).collect();
@@ -253,6 +267,7 @@ fn history_meeting(
         parlour.fail("label or verdicts are not those of the history");
     }
     history.meeting(a, b);
+    [a, b].iter().for_each(|&head| expect_left(parlour, history, head));
 }
 
 /// Each verdict came up, and yields of heads not milked.
@@ -273,7 +288,7 @@ fn require_answers(seen: &Seen) {
 /// Each label up to the limit was answered, but for the limit of 2 heads: only six different names
 /// leave none below it, and then the own rows have no meeting in common, which is 9.
 fn require_labels(seen: &Seen) {
-    for n in 2..=8 {
+    for n in LEAST..=MOST {
         let highest = if n == 2 { label_limit(n) - 1 } else { label_limit(n) };
         let two = [highest - 1, highest];
         let times = two.map(|label| seen.labels.of(n, label));
@@ -295,7 +310,7 @@ fn require_numbers(counts: &Counts) {
     for kind in from_no_list.into_iter().chain(["two moments of a list"]) {
         counts.require(kind, [0, 9]);
     }
-    for kind in ["against history", "ten years"] {
+    for kind in TEN_YEARS.map(|(_, kind)| kind).into_iter().chain(["against history"]) {
         counts.require(kind, [0, 8]);
     }
 }
@@ -303,12 +318,12 @@ fn require_numbers(counts: &Counts) {
 fn main() {
     let mut seen = Seen::new(&PLAIN);
     let parts: [(&str, u64, usize, fn(&mut Random, &mut Seen, usize)); 9] = [
-        ("two moments of a list", 0x5eed_0002, 80_000, moments),
-        ("rows from no list", 0x5eed_0003, 80_000, shaken),
-        ("from no list", 0x5eed_0004, 200_000, loose),
-        ("damaged or mismatched", 0x5eed_0005, 100_000, damaged),
-        ("a yield at an edge", 0x5eed_0008, 100_000, edges),
-        ("labels used up", 0x5eed_0009, 126_000, used_up),
+        ("two moments of a list", 0x5eed_0002, 40_000, moments),
+        ("rows from no list", 0x5eed_0003, 40_000, shaken),
+        ("from no list", 0x5eed_0004, 100_000, loose),
+        ("damaged or mismatched", 0x5eed_0005, 60_000, damaged),
+        ("a yield at an edge", 0x5eed_0008, 50_000, edges),
+        ("labels used up", 0x5eed_0009, 51_800, used_up),
         ("all of 2 heads", 0x5eed_000a, PAIRS_OF_TWO, all_of_two),
         ("against history", 0x5eed_0006, 70_000, against_history),
         ("ten years", 0x5eed_0007, 450_000, ten_years),

@@ -1,9 +1,17 @@
-//! Document 01 with requests 2026-01, 2026-02, 2026-04, 2026-05, 2026-07 and 2026-08 in plain Rust:
-//! the other side of every comparison.
+//! Document 01 with requests 2026-01, 2026-02, 2026-04, 2026-05 and 2026-07 to 2026-09 in plain
+//! Rust: the other side of every comparison.
 //! Stalls, rows and columns count from 1 as they do there, so index 0 of each array is unused.
 
 use std::cmp::Reverse;
 use std::ops::RangeInclusive;
+
+/// Request 2026-09: "N may be 2 to 16", "but a packed table over 8 is still number 1".
+pub const LEAST: usize = 2;
+pub const MOST: usize = 16;
+pub const MOST_PACKED: usize = 8;
+
+/// The length of an array with a place for each stall.
+pub const STALLS: usize = MOST + 1;
 
 /// The most that a milking may bring.
 const YIELD_LIMIT: u16 = 999;
@@ -12,8 +20,8 @@ const YIELD_LIMIT: u16 = 999;
 /// yield of a fresh head, and the stall yield of a stall never heard".
 pub const NOT_MILKED: u16 = 0xffff;
 
-/// Request 2026-08: "a lent buffer of 128 bytes".
-pub const PANEL_LENGTH: usize = 128;
+/// Request 2026-09, of the panel: "its buffer becomes 256 bytes for every N".
+pub const PANEL_LENGTH: usize = 256;
 
 /// Request 2026-08: "yield in litres with one decimal (18 becomes `1.8`), or `-` for not milked",
 /// "numbers without leading zeros (0 becomes `0.0`)". Of at least two digits the last is the decimal.
@@ -44,7 +52,7 @@ pub const NONE: Name = Name { partner: 0, label: 0 };
 /// A name read with its column: lower stall, higher stall, label.
 pub type Meeting = (usize, usize, u8);
 
-pub type Row = [Name; 9];
+pub type Row = [Name; STALLS];
 
 /// An image taken apart, good or bad.
 #[derive(Clone)]
@@ -52,9 +60,9 @@ pub struct Table {
     pub n: usize,
     pub stall: usize,
     pub current: u16,
-    pub rows: [Row; 9],
-    pub yields: [u16; 9],
-    pub order: [u8; 9],
+    pub rows: [Row; STALLS],
+    pub yields: [u16; STALLS],
+    pub order: [u16; STALLS],
 }
 
 /// How a table stands in bytes: as document 01 has it, or as request 2026-04 packs it.
@@ -72,6 +80,14 @@ impl Form {
         }
     }
 
+    /// The sizes of parlours that have images of this form.
+    pub fn sizes(self) -> RangeInclusive<usize> {
+        match self {
+            Form::Plain => LEAST..=MOST,
+            Form::Packed => LEAST..=MOST_PACKED,
+        }
+    }
+
     /// How many bytes a name has.
     pub fn name_len(self) -> usize {
         match self {
@@ -80,9 +96,19 @@ impl Form {
         }
     }
 
-    /// Request 2026-04: "so the length is N × N + 3 × N + 4".
+    /// Request 2026-04: "so the length is N × N + 3 × N + 4". Request 2026-09: "From 9 up", "the
+    /// length 2 × N × N + 4 × N + 4".
     pub fn length(self, n: usize) -> usize {
-        self.name_len() * n * n + 3 * n + 4
+        self.orders_at(n) + order_width(n) * n
+    }
+
+    /// Where the yields begin, and where the order entries do.
+    pub fn yields_at(self, n: usize) -> usize {
+        4 + self.name_len() * n * n
+    }
+
+    pub fn orders_at(self, n: usize) -> usize {
+        self.yields_at(n) + 2 * n
     }
 
     /// Request 2026-04: "partner minus 1 in the upper three bits, label in the lower five; a stall's
@@ -108,17 +134,16 @@ impl Form {
     fn take_apart(self, image: &[u8]) -> Table {
         let word = |at: usize| u16::from_be_bytes([image[at], image[at + 1]]);
         let mut table = Table::fresh(image[0] as usize, image[1] as usize);
-        let (n, name_len) = (table.n, self.name_len());
-        let yields = 4 + name_len * n * n;
-        let order = yields + 2 * n;
+        let (n, name_len, width) = (table.n, self.name_len(), order_width(table.n));
         table.current = word(2);
         for s in 1..=n {
             for r in 1..=n {
                 let at = 4 + name_len * (n * (s - 1) + r - 1);
                 table.rows[s][r] = self.read_name(&image[at..], r);
             }
-            table.yields[s] = word(yields + 2 * (s - 1));
-            table.order[s] = image[order + s - 1];
+            table.yields[s] = word(self.yields_at(n) + 2 * (s - 1));
+            let entry = &image[self.orders_at(n) + width * (s - 1)..][..width];
+            table.order[s] = entry.iter().fold(0, |marks, &byte| 256 * marks + byte as u16);
         }
         table
     }
@@ -134,8 +159,21 @@ impl Form {
         for r in table.stalls() {
             image.extend(table.yields[r].to_be_bytes());
         }
-        image.extend(&table.order[1..=table.n]);
+        for r in table.stalls() {
+            let [high, low] = table.order[r].to_be_bytes();
+            image.extend(&[high, low][2 - order_width(table.n)..]);
+        }
         image
+    }
+}
+
+/// How many bytes an order entry has. Request 2026-09: "From 9 up, an order byte becomes two bytes,
+/// high first", "images of 2 to 8 heads keep their bytes".
+pub fn order_width(n: usize) -> usize {
+    if n < 9 {
+        1
+    } else {
+        2
     }
 }
 
@@ -148,8 +186,8 @@ impl Table {
     /// Nothing heard and not milked. Request 2026-01, in place of "then zeros": "its names and marks
     /// are still zeros".
     pub fn fresh(n: usize, stall: usize) -> Table {
-        let yields = [NOT_MILKED; 9];
-        Table { n, stall, current: NOT_MILKED, rows: [[NONE; 9]; 9], yields, order: [0; 9] }
+        let (rows, yields) = ([[NONE; STALLS]; STALLS], [NOT_MILKED; STALLS]);
+        Table { n, stall, current: NOT_MILKED, rows, yields, order: [0; STALLS] }
     }
 
     pub fn to_bytes(&self) -> Vec<u8> {
@@ -238,7 +276,7 @@ impl Table {
 
     fn bad_marks(&self) -> bool {
         self.stalls().any(|r| {
-            (1..=8).any(|s| self.mark(r, s) && (s > self.n || !self.heard(r) || !self.heard(s)))
+            (1..=MOST).any(|s| self.mark(r, s) && (s > self.n || !self.heard(r) || !self.heard(s)))
                 || self.heard(r) && !self.mark(r, r)
                 || self.heard(r) && !self.mark(r, self.stall)
         })
@@ -252,7 +290,7 @@ impl Form {
     /// label is 5. Check 2 takes the new length for a packed table".
     pub fn read(self, image: &[u8]) -> Result<Table, u32> {
         let Some(&n) = image.first() else { return Err(1) };
-        if !(2..=8).contains(&n) {
+        if !self.sizes().contains(&(n as usize)) {
             return Err(1);
         }
         if image.len() != self.length(n as usize) {
@@ -279,7 +317,7 @@ impl Form {
     }
 
     pub fn fresh(self, image: &mut [u8], n: u8, stall: u8) -> u32 {
-        if !(2..=8).contains(&n) {
+        if !self.sizes().contains(&(n as usize)) {
             return 1;
         }
         if image.len() != self.length(n as usize) {
@@ -357,9 +395,10 @@ impl Form {
         if buffer != first.n {
             return Err(8);
         }
-        let mut verdicts = [0; 9];
+        let mut verdicts = [0; STALLS];
+        let common = [common(&first, &second), common(&second, &first)];
         for r in first.stalls() {
-            verdicts[r] = verdict(&first, &second, r)?;
+            verdicts[r] = verdict(&first, &second, &common, r)?;
         }
         let label = free_label(&first, &second);
         let merged = merge(&first, &second, &verdicts, label);
@@ -387,10 +426,13 @@ impl Form {
     }
 
     /// Writes what an image says in the other form: packs it, or unpacks it. Request 2026-04: "an
-    /// output buffer of the wrong length is 8, after 1 to 6".
+    /// output buffer of the wrong length is 8, after 1 to 6". Request 2026-09, of number 1: "and so
+    /// is a plain one over 8 that is to be packed". Numbers are tried in order, so 1 comes first.
     pub fn convert(self, image: &[u8], output: &mut [u8]) -> u32 {
         let other = self.other();
+        let fits_other = |&n: &u8| other.sizes().contains(&(n as usize));
         match self.read(image) {
+            _ if !image.first().is_some_and(fits_other) => 1,
             Err(number) => number,
             Ok(table) if output.len() != other.length(table.n) => 8,
             Ok(table) => {
@@ -405,19 +447,23 @@ impl Form {
 struct Joined {
     first: Table,
     second: Table,
-    verdicts: [u8; 9],
+    verdicts: [u8; STALLS],
     label: u8,
 }
 
-/// Whether one's latest of r is known to the other.
-fn known(one: &Table, other: &Table, r: usize) -> bool {
+/// The columns of one's own row that name a meeting which the other's names too, in whatever column.
+fn common(one: &Table, other: &Table) -> Vec<usize> {
     let names_too = |meeting| other.stalls().any(|t| other.named(other.stall, t) == Some(meeting));
-    let common = |s| one.named(one.stall, s).is_some_and(names_too);
-    !one.heard(r) || one.stalls().any(|s| one.mark(r, s) && common(s))
+    one.stalls().filter(|&s| one.named(one.stall, s).is_some_and(names_too)).collect()
 }
 
-fn verdict(first: &Table, second: &Table, r: usize) -> Result<u8, u32> {
-    match (known(first, second, r), known(second, first, r)) {
+/// Whether one's latest of r is known to the other, given what they have in common.
+fn known(one: &Table, common: &[usize], r: usize) -> bool {
+    !one.heard(r) || common.iter().any(|&s| one.mark(r, s))
+}
+
+fn verdict(first: &Table, second: &Table, common: &[Vec<usize>; 2], r: usize) -> Result<u8, u32> {
+    match (known(first, &common[0], r), known(second, &common[1], r)) {
         (true, false) => Ok(2),
         (false, true) => Ok(1),
         (true, true) if first.own_row()[r] == second.own_row()[r] => Ok(0),
@@ -429,23 +475,27 @@ fn verdict(first: &Table, second: &Table, r: usize) -> Result<u8, u32> {
 /// each table the latest of the partner stands in two rows, so a pair has at most 4 × N − 2
 /// different names in both tables".
 fn free_label(first: &Table, second: &Table) -> u8 {
-    let (low, high) = (first.stall.min(second.stall), first.stall.max(second.stall));
-    let has = |table: &Table, label| {
-        table
-            .stalls()
-            .any(|s| table.stalls().any(|r| table.named(s, r) == Some((low, high, label))))
-    };
+    let pair = (first.stall.min(second.stall), first.stall.max(second.stall));
+    let mut is_used = [false; 256];
+    for table in [first, second] {
+        for (s, r) in table.stalls().flat_map(|s| table.stalls().map(move |r| (s, r))) {
+            match table.named(s, r) {
+                Some((low, high, label)) if (low, high) == pair => is_used[label as usize] = true,
+                _ => (),
+            }
+        }
+    }
     (0..=label_limit(first.n) as u8)
-        .find(|&label| !has(first, label) && !has(second, label))
+        .find(|&label| !is_used[label as usize])
         .expect("4 * N - 2 different names cannot have 4 * N - 1 labels")
 }
 
 /// The rows, yields and marks that both heads have after the meeting.
-fn merge(first: &Table, second: &Table, verdicts: &[u8; 9], label: u8) -> Table {
+fn merge(first: &Table, second: &Table, verdicts: &[u8; STALLS], label: u8) -> Table {
     let (a, b) = (first.stall, second.stall);
     let met = |r| r == a || r == b;
     let mut merged = first.clone();
-    let mut latests = [NONE; 9];
+    let mut latests = [NONE; STALLS];
     for r in first.stalls() {
         let newer = if verdicts[r] == 2 { second } else { first };
         latests[r] = newer.own_row()[r];
@@ -470,7 +520,7 @@ fn merge(first: &Table, second: &Table, verdicts: &[u8; 9], label: u8) -> Table 
             false
         }
     };
-    merged.order = [0; 9];
+    merged.order = [0; STALLS];
     for r in first.stalls().filter(|&r| latests[r] != NONE) {
         for s in first.stalls() {
             if met(s) || !met(r) && between_others(r, s) {

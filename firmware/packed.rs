@@ -22,7 +22,7 @@ mod tally;
 use calls::{hex, share_of, Outcome, PLAIN};
 use images::{twin, Random};
 use lists::Item;
-use model::{label_limit, Form, Table};
+use model::{label_limit, Form, Table, MOST, MOST_PACKED};
 use packed_calls::{convert, PACKED};
 use parlour::{buffer, Parlour, Seen};
 use singles::{buffer_len, counts_len};
@@ -65,7 +65,7 @@ impl Test {
     /// Every call of the tables on a packed image of any kind. It meets two others: the first of
     /// them as first and as second, the other as first. Answers the number of the check.
     fn call_all(&mut self, random: &mut Random, image: &[u8], others: [&[u8]; 2]) -> u32 {
-        let n = image.first().map_or(2, |&n| n.min(9) as usize);
+        let n = image.first().map_or(2, |&n| n.min(MOST as u8) as usize);
         let counts = &mut self.packed.counts;
         let number = PACKED.check(counts, image);
         let [unpacked_len, records_len] =
@@ -95,7 +95,7 @@ fn expect_same_answers(what: &str, plain: &Outcome, packed: &Outcome) {
 
 /// Lists of every size with items that do not count, on plain and on packed heads side by side.
 fn side_by_side(random: &mut Random, test: &mut Test, rounds: usize) {
-    for n in (2..=8).flat_map(|n| vec![n; rounds]) {
+    for n in Form::Packed.sizes().flat_map(|n| vec![n; rounds]) {
         let count = 10 + random.below(90);
         let list = lists::draw(random, n, count);
         let list = lists::sprinkled(random, n, &list);
@@ -123,16 +123,16 @@ fn make_both(random: &mut Random, test: &mut Test, n: usize, list: &[Item]) {
 /// which do not go together.
 fn from_no_list(random: &mut Random, test: &mut Test, steps: usize) {
     for step in 0..steps {
-        let n = 3 + step / 8 % 6;
+        let n = 3 + step / 8 % (MOST_PACKED - 2);
         let lowest = random.pick(&[0, 1, label_limit(n) as u8]);
         let (first, second) = match step % 8 {
             0 => images::used_up(random, n, lowest),
             1 => {
-                let (first, _) = images::related(random);
-                let odd = images::mismatch(random, &first);
+                let (first, _) = images::related(random, Form::Packed);
+                let odd = images::mismatch(random, Form::Packed, &first);
                 (first, odd)
             }
-            _ => images::related(random),
+            _ => images::related(random, Form::Packed),
         };
         meet_both(random, test, [first, second]);
     }
@@ -159,7 +159,7 @@ fn of_any_kind(random: &mut Random, test: &mut Test, steps: usize) {
         singles::call_each(random, &PACKED, counts);
         for form in [Form::Plain, Form::Packed] {
             let image = singles::image(random, form);
-            let n = image.first().map_or(2, |&n| n.min(9) as usize);
+            let n = image.first().map_or(2, |&n| n.min(MOST as u8) as usize);
             let len = buffer_len(random, form.other().length(n));
             convert(counts, form, &image, &random.bytes(len));
         }
@@ -176,7 +176,7 @@ fn with_byte(packed: &[u8], places: &[(usize, usize)], byte: u8) -> Vec<u8> {
 /// Each byte in place of a name, and of its twin, of a full image: there each name is taken that is
 /// good by itself. Then each label with a stall's own number in place of none.
 fn each_byte(random: &mut Random, test: &mut Test, rounds: usize) {
-    for n in (2..=8).flat_map(|n| vec![n; rounds]) {
+    for n in Form::Packed.sizes().flat_map(|n| vec![n; rounds]) {
         let stall = random.stall(n);
         let full = images::full(random, n, stall);
         for byte in 0..=255 {
@@ -244,7 +244,7 @@ fn bases(random: &mut Random, test: &mut Test, n: usize) -> [(Table, Table); 4] 
 
 /// Every byte in place of every name, and in its twin too: so many in 256 of them.
 fn all_bytes(random: &mut Random, test: &mut Test, share: usize) {
-    for n in (2..=8).flat_map(|n| [n; 2]) {
+    for n in Form::Packed.sizes().flat_map(|n| [n; 2]) {
         for (one, other) in bases(random, test, n) {
             for place in places(n) {
                 let bytes = (0..=255).filter(|_| random.below(256) < share);
@@ -277,7 +277,7 @@ fn put_byte(
 /// Packed images of every size cut off or made longer to every length up to 160, and with every
 /// first byte: so many in 256 of them.
 fn lengths(random: &mut Random, test: &mut Test, share: usize) {
-    for n in 2..=8 {
+    for n in Form::Packed.sizes() {
         let (one, other) = images::related_of(random, n);
         let [packed, other] = [one, other].map(|table| Form::Packed.bytes(&table));
         let values = (0..=255).filter(|_| random.below(256) < share);
@@ -297,13 +297,46 @@ fn lengths(random: &mut Random, test: &mut Test, share: usize) {
 /// Packed images damaged in some places.
 fn damaged(random: &mut Random, test: &mut Test, steps: usize) {
     for _ in 0..steps {
-        let (one, other) = images::related(random);
+        let (one, other) = images::related(random, Form::Packed);
         let [mut damaged, other] = [one, other].map(|table| Form::Packed.bytes(&table));
         let mut other_damaged = other.clone();
         images::damage(random, Form::Packed, &mut damaged);
         images::damage(random, Form::Packed, &mut other_damaged);
         let number = test.call_all(random, &damaged, [&other, &other_damaged]);
         test.packed.counts.add_number("damaged: any", number);
+    }
+}
+
+/// Images of more heads than a packed one can have, so often of every such size, good and damaged:
+/// they are not packed, and runs that could be taken for their packed forms are none.
+fn over_eight(random: &mut Random, test: &mut Test, rounds: usize) {
+    for n in (MOST_PACKED + 1..=MOST).flat_map(|n| vec![n; rounds]) {
+        let stall = random.stall(n);
+        let good = images::accepted(random, n, stall).to_bytes();
+        let mut damaged = good.clone();
+        damaged[1..].iter_mut().filter(|_| random.percent(2)).for_each(|byte| *byte ^= 1);
+        let other = Form::Packed.bytes(&images::related(random, Form::Packed).0);
+        for len in [1, 92, n * n + 3 * n + 4, Form::Packed.length(n), good.len()] {
+            for image in [&good[..], &damaged, &good[..len]] {
+                let packed =
+                    convert(&mut test.packed.counts, Form::Plain, image, &random.bytes(len));
+                expect_one(&mut test.packed, "over eight: packing", image, packed.answer);
+            }
+            let mut run = random.bytes(len);
+            PACKED.fresh(&mut test.packed.counts, &run, n as u8, stall as u8);
+            run[0] = n as u8;
+            let number = test.call_all(random, &run, [&other, &run]);
+            expect_one(&mut test.packed, "over eight: packed", &run, number);
+        }
+    }
+}
+
+/// Ends the run unless the number is 1.
+fn expect_one(seen: &mut Seen, kind: &'static str, image: &[u8], number: u32) {
+    seen.counts.add_number(kind, number);
+    if number != 1 {
+        println!("{kind}: number {number}, not 1: {}", hex(image));
+        exit(1);
     }
 }
 
@@ -333,17 +366,19 @@ fn require(test: &Test) {
     counts.require("damaged: length or N", [1, 2]);
     counts.require("from lists", [0, 8]);
     counts.require("from no list", [0, 7, 8, 9]);
+    counts.require("over eight: packing", [1]);
+    counts.require("over eight: packed", [1]);
     println!("  verdicts 0, 1, 2: {:?}", test.packed.verdicts);
     if test.packed.verdicts.contains(&0) {
         println!("a verdict never came up");
         exit(1);
     }
-    (3..=8).for_each(|n| test.packed.labels.require(n, [label_limit(n)]));
+    (3..=MOST_PACKED).for_each(|n| test.packed.labels.require(n, [label_limit(n)]));
 }
 
 fn main() {
     let mut test = Test { plain: Seen::new(&PLAIN), packed: Seen::new(&PACKED) };
-    let parts: [(&str, u64, usize, fn(&mut Random, &mut Test, usize)); 8] = [
+    let parts: [(&str, u64, usize, fn(&mut Random, &mut Test, usize)); 9] = [
         ("side by side", 0x5eed_0031, share_of(300), side_by_side),
         ("from no list", 0x5eed_0032, share_of(60_000), from_no_list),
         ("of any kind", 0x5eed_0033, share_of(100_000), of_any_kind),
@@ -352,6 +387,7 @@ fn main() {
         ("lengths", 0x5eed_0036, share_of(256), lengths),
         ("damaged", 0x5eed_0037, share_of(100_000), damaged),
         ("heard lists", 0x5eed_0038, share_of(1_000), heard_lists),
+        ("over eight", 0x5eed_0039, share_of(200), over_eight),
     ];
     for (kind, seed, share, part) in parts {
         println!("packed: {kind}: seed {seed:#x}");

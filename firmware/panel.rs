@@ -22,7 +22,7 @@ mod tally;
 
 use calls::{hex, records, share_of, Outcome, Record, PLAIN};
 use images::{twin, Random};
-use model::{label_limit, Form, Table, NOT_MILKED, PANEL_LENGTH};
+use model::{label_limit, Form, Table, LEAST, MOST, NOT_MILKED, PANEL_LENGTH};
 use packed_calls::PACKED;
 use parlour::{Parlour, Seen};
 use std::collections::BTreeSet;
@@ -41,20 +41,27 @@ const LONGEST: &str = "texts: the longest";
 /// How many different yields a text can have: 0 to 999, and not milked.
 const YIELDS: usize = 1001;
 
-/// Lengths of buffers: the right one and those next to it, others, and two that have the lowest
+/// Lengths of buffers: the right one and those next to it, others, and some that have the lowest
 /// byte or the two lowest bytes of the right one.
 const LENGTHS: [usize; 10] = [
     0,
     1,
-    24,
+    48,
     PANEL_LENGTH / 2,
     PANEL_LENGTH - 1,
     PANEL_LENGTH,
     PANEL_LENGTH + 1,
     2 * PANEL_LENGTH,
-    PANEL_LENGTH + 256,
+    PANEL_LENGTH + 512,
     PANEL_LENGTH + 65_536,
 ];
+
+/// The length of the longest text: each rank and each stall up to n once, and in each line two blanks
+/// and a yield of 10.0 litres or more.
+fn longest(n: usize) -> usize {
+    let digits: usize = (1..=n).map(|number| number.to_string().len()).sum();
+    2 * digits + n * "  99.9\n".len()
+}
 
 /// A line of a text: its rank, and what it says as a record.
 type Line = (usize, Record);
@@ -106,11 +113,12 @@ fn expect_number(number: u32, image: &[u8], panel: &Outcome) {
     }
 }
 
-/// An image and its packed form.
-type Both = [Vec<u8>; 2];
+/// An image and its packed form, if its size has one.
+type Both = Vec<Vec<u8>>;
 
 fn both(table: &Table) -> Both {
-    [Form::Plain, Form::Packed].map(|form| form.bytes(table))
+    let has = |form: &Form| form.sizes().contains(&table.n);
+    [Form::Plain, Form::Packed].into_iter().filter(has).map(|form| form.bytes(table)).collect()
 }
 
 /// What the calls showed on plain images and on packed ones, and the texts.
@@ -143,9 +151,11 @@ impl Test {
 
     /// The panels of an image and of its packed form: the same answer and text.
     fn write_both(&mut self, images: &Both, len: usize) -> u32 {
-        let [plain, packed] = [0, 1].map(|form| self.write(form, &images[form], len));
-        if plain.answer != packed.answer || plain.runs[1] != packed.runs[1] {
-            fail("another panel than that of the packed form", &images[0], &plain);
+        let plain = self.write(0, &images[0], len);
+        for packed in images[1..].iter().map(|packed| self.write(1, packed, len)) {
+            if plain.answer != packed.answer || plain.runs[1] != packed.runs[1] {
+                fail("another panel than that of the packed form", &images[0], &plain);
+            }
         }
         plain.answer
     }
@@ -156,7 +166,7 @@ impl Test {
         let (n, yields) = (table.n, heads::yields_of(table));
         heads::note(&mut self.tally, &yields);
         self.tally.add(NOBODY, n, (len == 0) as usize);
-        self.tally.add(LONGEST, n, (len as usize == 9 * n) as usize);
+        self.tally.add(LONGEST, n, (len as usize == longest(n)) as usize);
         for new in yields.into_iter().flatten() {
             let kind = match new {
                 NOT_MILKED => DASH,
@@ -173,7 +183,7 @@ impl Test {
 /// Each yield, of one stall and of all, in texts of so many sizes.
 fn each_yield(random: &mut Random, test: &mut Test, sizes: usize) {
     for new in (0..=999).chain([NOT_MILKED]) {
-        for n in (0..sizes).map(|size| 2 + (new as usize + size) % 7) {
+        for n in (0..sizes).map(|size| LEAST + (new as usize + size) % (MOST - LEAST + 1)) {
             let stall = random.stall(n);
             let mut table = images::full(random, n, stall);
             images::put_yield(&mut table, random.stall(n), new);
@@ -186,12 +196,12 @@ fn each_yield(random: &mut Random, test: &mut Test, sizes: usize) {
 
 /// Heads whose yields have every order: so many in a thousand.
 fn each_order(random: &mut Random, test: &mut Test, share: usize) {
-    heads::each_head(random, share, |table| test.show(table));
+    heads::each_head(random, LEAST..=MOST, share, |table| test.show(table));
 }
 
 /// Heads of lists: fresh, and those of each item after it.
 fn from_lists(random: &mut Random, test: &mut Test, rounds: usize) {
-    for n in 2..=8 {
+    for n in LEAST..=MOST {
         for round in 1..=rounds {
             let list = lists::draw_round(random, n, round);
             let mut parlour = Parlour::open(random, n, &mut test.forms[0]);
@@ -218,9 +228,10 @@ fn with_fault(random: &mut Random, n: usize, number: u32) -> Both {
         6 => table.order[r] &= !(1 << (own - 1)),
         _ => (),
     }
-    let (first, change) = (random.pick(&[0, 1, 9, 255]), 1 + random.below(5));
+    let (first, change) = (random.pick(&[0, 1, MOST as u8 + 1, 255]), 1 + random.below(5));
     let (is_empty, is_longer) = (random.percent(20), random.percent(50));
-    both(&table).map(|mut image| {
+    let mut images = both(&table);
+    for image in &mut images {
         match number {
             1 if is_empty => image.clear(),
             1 => image[0] = first,
@@ -228,13 +239,13 @@ fn with_fault(random: &mut Random, n: usize, number: u32) -> Both {
             2 => image.truncate(image.len() - change),
             _ => (),
         }
-        image
-    })
+    }
+    images
 }
 
 /// Each fault, and none, with buffers of each length.
 fn each_fault(random: &mut Random, test: &mut Test, rounds: usize) {
-    for n in (2..=8).flat_map(|n| vec![n; rounds]) {
+    for n in (LEAST..=MOST).flat_map(|n| vec![n; rounds]) {
         for number in 0..=6 {
             let images = with_fault(random, n, number);
             for len in LENGTHS.into_iter().chain([random.below(300)]) {
@@ -263,9 +274,9 @@ fn of_any_kind(random: &mut Random, test: &mut Test, steps: usize) {
 /// heads.
 fn require(test: &Test) {
     test.forms.iter().for_each(|seen| seen.counts.require("panel", (0..=6).chain([8])));
-    heads::require(&test.tally);
+    heads::require(&test.tally, LEAST..=MOST);
     for kind in [NOBODY, DASH, BELOW_ONE, BELOW_TEN, FROM_TEN, LONGEST] {
-        test.tally.require(kind, 2..=8);
+        test.tally.require(kind, LEAST..=MOST);
     }
     println!("  {} different yields in texts", test.yields.len());
     if test.yields.len() != YIELDS {
@@ -278,7 +289,7 @@ fn main() {
     let forms = [&PLAIN, &PACKED].map(Seen::new);
     let mut test = Test { forms, tally: Tally::default(), yields: BTreeSet::new() };
     let parts: [(&str, u64, usize, fn(&mut Random, &mut Test, usize)); 5] = [
-        ("each yield", 0x5eed_0051, share_of(7).max(1), each_yield),
+        ("each yield", 0x5eed_0051, share_of(15).max(1), each_yield),
         ("each order", 0x5eed_0052, share_of(100), each_order),
         ("from lists", 0x5eed_0053, share_of(60), from_lists),
         ("each fault", 0x5eed_0054, share_of(100), each_fault),

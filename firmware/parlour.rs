@@ -67,7 +67,7 @@ impl Seen {
 pub fn buffer(random: &mut Random, n: usize, wrong_percent: usize) -> Vec<u8> {
     let mut len = n;
     if random.percent(wrong_percent) {
-        len = random.pick(&[0, 1, 2, n - 1, n + 1, 3 * n, 156, 300]);
+        len = random.pick(&[0, 1, 2, n - 1, n + 1, 3 * n, 156, 300, 580]);
     }
     random.bytes(len)
 }

@@ -1,12 +1,14 @@
 //! Inputs for a line program: taken lines, refused ones, and bytes that are no lines at all.
 
 use crate::images::{Random, EDGES};
+use crate::model::Form;
 use crate::pairs::{next_pair, Way, WAYS};
 
-/// Document 01's listing and its examples of lines, and what requests 2026-01, 2026-05 and 2026-07
-/// say of lines: input and output. In the listing heads 2 and 3 know that all have heard of the
-/// meeting of 1 and 2.
-pub const EXAMPLES: [(&str, &str); 15] = [
+/// Document 01's listing and its examples of lines, and what requests 2026-01, 2026-05, 2026-07 and
+/// 2026-09 say of lines: input and output. In the listing heads 2 and 3 know that all have heard of
+/// the meeting of 1 and 2. The order entries of 9 heads have the mark for stall 9 in their first
+/// byte.
+pub const EXAMPLES: [(&str, &str); 17] = [
     (
         "0103\n02010012\n030102\n030203\n0403\n",
         "00\n00\n0000000000\n0000010100\n\
@@ -42,6 +44,24 @@ pub const EXAMPLES: [(&str, &str); 15] = [
         "0103\n02010007\n02020012\n02030012\n030102\n030203\n0503\n",
         "00\n00\n00\n00\n0000000000\n0000010100\n0003020012030012010007\n",
     ),
+    ("0100\n0101\n0111\n01ff\n0410\n0110\n0411\n0109\n", "01\n01\n01\n01\n0b\n00\n03\n0b\n"),
+    (
+        "0109\n02090012\n030209\n0402\n0509\n0609\n030a01\n",
+        "00\n00\n0000000000000000000000\n\
+         000902ffff\
+         000000000000000000000000000000000000\
+         000009000000000000000000000000000200\
+         000000000000000000000000000000000000\
+         000000000000000000000000000000000000\
+         000000000000000000000000000000000000\
+         000000000000000000000000000000000000\
+         000000000000000000000000000000000000\
+         000000000000000000000000000000000000\
+         000009000000000000000000000000000200\
+         ffffffffffffffffffffffffffffffff0012\
+         000001020000000000000000000000000102\n\
+         000209001202ffff\n00000200000000000002\n03\n",
+    ),
 ];
 
 /// Lines to a parlour of n heads.
@@ -76,7 +96,7 @@ impl Talk {
     fn any_stall(&self, random: &mut Random) -> u8 {
         let n = self.n as u8;
         let any = random.byte();
-        random.pick(&[0, 1, n - 1, n, n + 1, 8, 9, 16 * n, 128 + n, 255, any])
+        random.pick(&[0, 1, n - 1, n, n + 1, 8, 9, 16, 17, n << 4, 128 + n, 255, any])
     }
 
     /// A frame whose values are often refused.
@@ -142,8 +162,8 @@ impl Talk {
 }
 
 fn opening(random: &mut Random) -> String {
-    let n = random.size();
-    format!("01{:02x}", random.pick(&[0, 1, n, n, 9, 255]))
+    let n = random.size(Form::Plain);
+    format!("01{:02x}", random.pick(&[0, 1, n, n, 17, 255]))
 }
 
 fn digits(random: &mut Random, count: usize) -> Vec<u8> {
@@ -192,7 +212,7 @@ pub fn session(random: &mut Random, n: usize, count: usize, odd: usize) -> Vec<u
 }
 
 fn refused_opening(random: &mut Random) -> Vec<u8> {
-    format!("01{:02x}", random.pick(&[0, 1, 9, 16, 18, 128, 130, 255])).into_bytes()
+    format!("01{:02x}", random.pick(&[0, 1, 17, 18, 32, 128, 130, 255])).into_bytes()
 }
 
 /// Any bytes, or bytes of which most are digits and newlines.
@@ -248,7 +268,7 @@ pub fn all_kinds() -> Vec<u8> {
 
 /// Each two bytes in the place of the last two digits of a line.
 pub fn all_pairs() -> Vec<u8> {
-    let mut input = b"0108\n030801\n030102\n".to_vec();
+    let mut input = b"0110\n031001\n030102\n".to_vec();
     for kind in [b"05", b"06"] {
         for pair in 0..=u16::MAX {
             input.extend([kind, &pair.to_be_bytes()[..], b"\n"].concat());
@@ -260,7 +280,7 @@ pub fn all_pairs() -> Vec<u8> {
 /// Each opening that is refused, and then one that is taken.
 pub fn all_openings(n: usize) -> Vec<u8> {
     let mut input = Vec::new();
-    for refused in (0..=255).filter(|refused| !(2..=8).contains(refused)) {
+    for refused in (0..=255).filter(|refused| !Form::Plain.sizes().contains(refused)) {
         input.extend(format!("01{refused:02x}\n0401\n0601\n").bytes());
     }
     for opening in [n, n, 0] {

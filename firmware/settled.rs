@@ -23,7 +23,7 @@ use calls::{share_of, Calls, PLAIN};
 use history::{History, Pasts};
 use images::Random;
 use lists::Item;
-use model::Meeting;
+use model::{Meeting, STALLS};
 use packed_calls::PACKED;
 use parlour::{buffer, Parlour, Seen};
 use tally::{Tally, LONG, LONG_LISTS};
@@ -60,9 +60,9 @@ struct Watched {
     made: Vec<Meeting>,
     /// Of each stall the newest meeting that a head gave the number N: from then on every head must
     /// have it or a newer one. Then it has each older one that was given N, or a newer one, too.
-    settled: [Option<usize>; 9],
+    settled: [Option<usize>; STALLS],
     /// What each head said last of each stall.
-    said: [[Said; 9]; 9],
+    said: [[Said; STALLS]; STALLS],
 }
 
 impl Watched {
@@ -71,8 +71,8 @@ impl Watched {
             parlour: Parlour::open(random, n, seen),
             history: History::new(n, pasts),
             made: Vec::new(),
-            settled: [None; 9],
-            said: [[Said::default(); 9]; 9],
+            settled: [None; STALLS],
+            said: [[Said::default(); STALLS]; STALLS],
         }
     }
 
@@ -180,27 +180,28 @@ fn watch(random: &mut Random, test: &mut Test, n: usize, list: &[Item]) {
 /// another with the marks the other way.
 fn require(test: &Test) {
     let (counts, tally) = (&test.seen.counts, &test.tally);
+    let most = *test.seen.calls.form.sizes().end();
     counts.require("settled", [0, 8]);
     counts.require("milking", [0, 4]);
     counts.require("from lists", [0, 8]);
     for kind in [LONG_LISTS, OF_ALL, SETTLED, KEPT] {
-        tally.require(kind, 2..=8);
+        tally.require(kind, 2..=most);
     }
     for kind in [FELL, ONE_LACKS_IT, ALL_HAVE_IT, OTHER_WAY, NEWS] {
-        tally.require(kind, 3..=8);
+        tally.require(kind, 3..=most);
         tally.require_never(kind, 2);
     }
 }
 
 fn main() {
-    let forms: [(&str, u64, &'static Calls); 2] =
-        [("plain", 0x5eed_0041, &PLAIN), ("packed", 0x5eed_0042, &PACKED)];
-    for (form, seed, calls) in forms {
+    let forms: [(&str, u64, &'static Calls, usize); 2] =
+        [("plain", 0x5eed_0041, &PLAIN, 120), ("packed", 0x5eed_0042, &PACKED, 600)];
+    for (form, seed, calls, rounds) in forms {
         println!("settled: {form}: seed {seed:#x}");
         let mut random = Random(seed);
         let mut test = Test { seen: Seen::new(calls), tally: Tally::default() };
-        for n in 2..=8 {
-            for round in 0..share_of(600) {
+        for n in calls.form.sizes() {
+            for round in 0..share_of(rounds) {
                 let list = lists::draw_round(&mut random, n, round);
                 test.tally.add_list(n, list.len());
                 watch(&mut random, &mut test, n, &list);

@@ -2,11 +2,11 @@
 
 use crate::calls::{Calls, Counts};
 use crate::images::{self, Random};
-use crate::model::{Form, Table};
+use crate::model::{Form, Table, MOST};
 
 /// An image of some kind: fresh, accepted, damaged, or any bytes at all.
 pub fn image(random: &mut Random, form: Form) -> Vec<u8> {
-    let n = random.size();
+    let n = random.size(form);
     let stall = random.stall(n);
     let table = match random.below(8) {
         0 => Table::fresh(n, stall),
@@ -24,14 +24,15 @@ pub fn image(random: &mut Random, form: Form) -> Vec<u8> {
 /// Bytes that no head wrote; with a good start and length often enough, and most others as in a fresh
 /// image.
 fn any_bytes(random: &mut Random, form: Form) -> Vec<u8> {
-    let n = random.pick(&[0, 1, 2, 3, 4, 5, 6, 7, 8, 9, 255]);
-    let len = if random.percent(60) { form.length(n) } else { random.below(200) };
+    let n = if random.percent(90) { random.below(MOST + 2) } else { 255 };
+    let len = if random.percent(60) { form.length(n.min(MOST + 1)) } else { random.below(600) };
     let mut image = random.bytes(len);
-    let fresh = if (2..=8).contains(&n) { form.bytes(&Table::fresh(n, 1)) } else { vec![] };
+    let is_size = form.sizes().contains(&n);
+    let fresh = if is_size { form.bytes(&Table::fresh(n, 1)) } else { vec![] };
     for (at, byte) in image.iter_mut().enumerate() {
         match at {
             0 => *byte = n as u8,
-            1 => *byte = random.below(10) as u8,
+            1 => *byte = random.below(MOST + 2) as u8,
             _ if random.percent(90) => *byte = fresh.get(at).copied().unwrap_or(0),
             _ => (),
         }
@@ -45,16 +46,16 @@ pub fn buffer_len(random: &mut Random, right: usize) -> usize {
         0 => 0,
         1 => right.saturating_sub(1),
         2 => right + 1,
-        3 => random.below(300),
+        3 => random.below(600),
         _ => right,
     }
 }
 
 /// One call of fresh, with every part of it right or wrong.
 fn fresh(random: &mut Random, calls: &Calls, counts: &mut Counts) {
-    let n = if random.percent(80) { random.size() } else { random.byte() as usize };
-    let stall = if random.percent(70) { random.stall(n.max(1)) } else { random.below(12) };
-    let len = buffer_len(random, calls.form.length(n.min(9)));
+    let n = if random.percent(80) { random.size(calls.form) } else { random.byte() as usize };
+    let stall = if random.percent(70) { random.stall(n.max(1)) } else { random.below(20) };
+    let len = buffer_len(random, calls.form.length(n.min(MOST + 1)));
     let before = random.bytes(len);
     calls.fresh(counts, &before, n as u8, stall as u8);
 }
@@ -64,7 +65,7 @@ pub fn counts_len(random: &mut Random, n: usize) -> usize {
     if random.percent(70) {
         buffer_len(random, n)
     } else {
-        random.below(11)
+        random.below(MOST + 3)
     }
 }
 

@@ -16,6 +16,7 @@ mod tally;
 use calls::{share_of, Outcome, PLAIN};
 use images::Random;
 use lists::{Item, Made, Order};
+use model::{LEAST, MOST};
 use pairs::{next_pair, Way};
 use parlour::{Parlour, Seen};
 use std::collections::BTreeMap;
@@ -236,14 +237,14 @@ fn note_renamed(test: &mut Test, list: &[Item], order: &Order, again: &Made) {
 /// Each thing came up with every number of heads that it can come up with.
 fn require(test: &Test) {
     let tally = &test.tally;
-    tally.require(LONG_LISTS, 2..=8);
-    tally.require(ONE_REFUSED, 2..=8);
+    tally.require(LONG_LISTS, LEAST..=MOST);
+    tally.require(ONE_REFUSED, LEAST..=MOST);
     for meetings in 0..=2 {
-        tally.require(NO_COMMON_HEAD[meetings], 2 + meetings..=8);
+        tally.require(NO_COMMON_HEAD[meetings], 2 + meetings..=MOST);
         // Two meetings of 2 heads are the same meeting twice.
-        tally.require(OTHER_BYTES[meetings], 2.max(1 + meetings)..=8);
+        tally.require(OTHER_BYTES[meetings], 2.max(1 + meetings)..=MOST);
     }
-    tally.require(REORDERED_DIFFERENT, 2..=8);
+    tally.require(REORDERED_DIFFERENT, LEAST..=MOST);
     tally.require_most(REORDERED_DIFFERENT, REORDERED);
     tally.require_most(REORDERED_MOVED, REORDERED_ITEMS);
     test.seen.counts.require("milking", [0, 4]);
@@ -255,7 +256,7 @@ fn require(test: &Test) {
 fn require_of_third(tally: &Tally) {
     let verdicts = EITHER_END_VERDICTS.into_iter().chain(RENAMED_VERDICTS);
     for kind in verdicts.chain([FROM_NO_LIST]) {
-        tally.require(kind, 3..=8);
+        tally.require(kind, 3..=MOST);
         tally.require_never(kind, 2);
     }
 }
@@ -266,14 +267,14 @@ type Part = fn(&mut Random, &mut Test, usize, &[Item]);
 fn main() {
     let mut test = Test { seen: Seen::new(&PLAIN), tally: Tally::default() };
     let parts: [(&str, u64, usize, Part); 3] = [
-        ("either end of the cable", 0x5eed_0021, 1500, either_end),
-        ("trading places", 0x5eed_0022, 1200, trades),
-        ("each head's own order", 0x5eed_0023, 1200, own_orders),
+        ("either end of the cable", 0x5eed_0021, 300, either_end),
+        ("trading places", 0x5eed_0022, 240, trades),
+        ("each head's own order", 0x5eed_0023, 240, own_orders),
     ];
     for (kind, seed, rounds, part) in parts {
         println!("traces: {kind}: seed {seed:#x}");
         let mut random = Random(seed);
-        for n in 2..=8 {
+        for n in LEAST..=MOST {
             for round in 0..share_of(rounds) {
                 let list = lists::draw_round(&mut random, n, round);
                 test.tally.add_list(n, list.len());

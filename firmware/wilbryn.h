@@ -1,27 +1,30 @@
 /* Wilbryn: tables and meetings of milk meter heads.
 
-   An image is the table of one head, as bytes: N (2 to 8), own stall (1 to N), current yield, N
-   rows of N names (partner byte and label byte), N yields, N order bytes. A yield is two bytes,
-   high byte first: 0 to 999 decilitres, or WILBRYN_NOT_MILKED. The image of N heads has
-   WILBRYN_IMAGE_LENGTH(N) bytes.
+   An image is the table of one head, as bytes: N (2 to 16), own stall (1 to N), current yield, N
+   rows of N names (partner byte and label byte), N yields, N order entries. A yield is two bytes,
+   high byte first: 0 to 999 decilitres, or WILBRYN_NOT_MILKED. An order entry is one byte up to 8
+   heads and two bytes from 9 up, high byte first; its bit of value 2 to the power s - 1 is the mark
+   for stall s. The image of N heads has WILBRYN_IMAGE_LENGTH(N) bytes.
 
-   A packed image is the same table in fewer bytes, for storage. Each name is one byte: partner - 1
-   in the upper three bits, label in the lower five; in column c the partner c with label 0 means
-   none. Header, yields and order bytes are as in the image. It has WILBRYN_PACKED_LENGTH(N) bytes.
-   An image has one packed image and a packed image one image, so comparing the bytes of either form
-   compares the tables.
+   A packed image is the table of a head of 2 to 8 in fewer bytes, for storage. Each name is one
+   byte: partner - 1 in the upper three bits, label in the lower five; in column c the partner c
+   with label 0 means none. Header, yields and order bytes are as in the image. It has
+   WILBRYN_PACKED_LENGTH(N) bytes. An image of 2 to 8 heads has one packed image and a packed image
+   one image, so comparing the bytes of either form compares the tables. From 9 heads up there are
+   no packed images.
 
    Runs of bytes are lent for the time of a call, as a pointer and a length. Those lent to one call
    must not overlap. No pointer may be null; a run of length 0 may have any other.
 
    A call that refuses changes no lent byte. The numbers of the refusals:
 
-     1  image empty, or N not 2 to 8        6  bad order marks
-     2  length not the one for N; a         7  two images differ in N or have one stall
-        packed image has its own            8  verdicts or counts not N bytes, records not
-     3  stall not 1 to N                       3 * N, text not WILBRYN_PANEL_LENGTH, or the
-     4  a yield over 999 and not 0xffff        output of pack or unpack not the length for N
-     5  a bad name                          9  the two images do not belong together
+     1  image empty, or N not 2 to 16       6  bad order marks
+        (packed, or to be packed: 2 to 8)   7  two images differ in N or have one stall
+     2  length not the one for N; a         8  verdicts or counts not N bytes, records not
+        packed image has its own               3 * N, text not WILBRYN_PANEL_LENGTH, or the
+     3  stall not 1 to N                       output of pack or unpack not the length for N
+     4  a yield over 999 and not 0xffff     9  the two images do not belong together
+     5  a bad name
 
    The check of an image tries 1 to 6 in order and stops at the first that applies. A stall never
    heard has the yield WILBRYN_NOT_MILKED: with 0 to 999 the image is refused with 5. The check of a
@@ -37,25 +40,35 @@
 extern "C" {
 #endif
 
-#define WILBRYN_IMAGE_LENGTH(n) (2u * (n) * (n) + 3u * (n) + 4u)
+/* The most heads of a parlour, and of one whose tables can be packed. */
+#define WILBRYN_MOST_HEADS 16
+#define WILBRYN_MOST_PACKED_HEADS 8
 
-/* For 2 to 8 heads 14, 22, 32, 44, 58, 74, 92. */
+/* The bytes of an order entry. */
+#define WILBRYN_ORDER_WIDTH(n) ((n) > 8 ? 2u : 1u)
+
+/* For 2 to 8 heads 18, 31, 48, 69, 94, 123, 156; for 9 to 16 heads 202, 244, 290, 340, 394, 452,
+   514, 580. */
+#define WILBRYN_IMAGE_LENGTH(n) (2u * (n) * (n) + (2u + WILBRYN_ORDER_WIDTH(n)) * (n) + 4u)
+
+/* For 2 to 8 heads 14, 22, 32, 44, 58, 74, 92; no other N has packed images. */
 #define WILBRYN_PACKED_LENGTH(n) ((n) * (n) + 3u * (n) + 4u)
 
-/* Labels in images and answers run from 0 to this: 30 for 8 heads, so a label fits five bits. The
-   check refuses a higher one with 5. No meeting of two accepted images needs a higher one, whatever
-   made them, and some of 3 to 8 heads need this one. A meeting of 2 heads answers at most 5: two
-   images that use the labels 0 to 5 have no meeting in common and are refused with 9. Heads that
-   start fresh and are written by these calls alone never need more than N - 1. */
+/* Labels in images and answers run from 0 to this: 30 for 8 heads and 62 for 16, so a label fits
+   five bits up to 8 heads and six bits up to 16. The check refuses a higher one with 5. No meeting
+   of two accepted images needs a higher one, whatever made them, and some of 3 to 16 heads need
+   this one. A meeting of 2 heads answers at most 5: two images that use the labels 0 to 5 have no
+   meeting in common and are refused with 9. Heads that start fresh and are written by these calls
+   alone never need more than N - 1. */
 #define WILBRYN_LABEL_LIMIT(n) (4u * (n) - 2u)
 
 /* The current yield of a head until its first milking, and the yield of a stall never heard. A cow
    that gave nothing has 0. */
 #define WILBRYN_NOT_MILKED 0xffff
 
-/* The bytes of the buffer that a wall panel is written into, for every N. Eight lines have at most
-   72, so a zero always follows the text. */
-#define WILBRYN_PANEL_LENGTH 128
+/* The bytes of the buffer that a wall panel is written into, for every N. Sixteen lines have at
+   most 158, so a zero always follows the text. */
+#define WILBRYN_PANEL_LENGTH 256
 
 /* The heard lists, the meetings and the wall panels answer this plus the number of a refusal. */
 #define WILBRYN_REFUSED 256
@@ -121,7 +134,8 @@ uint32_t wilbryn_meeting(uint8_t *first, size_t first_len, uint8_t *second, size
 uint32_t wilbryn_panel(const uint8_t *image, size_t len, uint8_t *text, size_t text_len);
 
 /* Writes the packed image of an image. Answers 0, or 1 to 6 for the image, then 8 if packed_len is
-   not WILBRYN_PACKED_LENGTH(N). */
+   not WILBRYN_PACKED_LENGTH(N). Here an image of 9 to 16 heads has number 1, whatever else there is
+   to say of it. */
 uint32_t wilbryn_pack(const uint8_t *image, size_t len, uint8_t *packed, size_t packed_len);
 
 /* Writes the image of a packed image. Answers 0, or 1 to 6 for the packed image, then 8 if len is
