@@ -5,6 +5,7 @@ use mathlib.Core.List.{List, [], _∷_, _++_}
 use lib.Dec.{leb, eqb}
 use lib.ListN.{replicate}
 use Rattle.image.specs.Stalls.{each}
+use Rattle.image.specs.Fresh.{freshImage}
 use Rattle.image.specs.Examples.{notMilked, withLabel, nine-first, nine-second, listing}
 use Rattle.line.specs.Examples.{frames}
 use Rattle.cases.specs.Case.{Given, labels, verdicts, firsts, together, milked, lines, number, lent, everyTwo}
@@ -47,6 +48,10 @@ module _ (n p q : ℕ) where
 unfoldable pub firstMeetings : ℕ → List ℕ
 firstMeetings n = everyTwo n (λ p q. 0 ∷ (metImage n p q p ++ metImage n p q q ++ replicate n 0))
 
+-- of the last head and the first
+abbrev pub lastAndFirst : ℕ → Case
+lastAndFirst n = together (freshImage n n) (freshImage n 1) gives (0 ∷ (metImage n n 1 n ++ metImage n n 1 1 ++ replicate n 0))
+
 -- the first of two heads that have not met, with this current yield
 abbrev pub milkedImage : List ℕ → List ℕ
 milkedImage current = (2 ∷ 1 ∷ current) ++ replicate 8 0 ++ notMilked 2 ++ replicate 2 0
@@ -57,7 +62,7 @@ table =
     (labels 2 ((1, 2) ∷ (1, 2) ∷ (1, 2) ∷ (1, 2) ∷ []) gives (0 ∷ 1 ∷ 0 ∷ 1 ∷ []))
     -- "N=3, 1-2, 1-3, 1-2, 1-2, 1-2: labels 0, 0, 1, 2, 1."
     ∷ (labels 3 ((1, 2) ∷ (1, 3) ∷ (1, 2) ∷ (1, 2) ∷ (1, 2) ∷ []) gives (0 ∷ 0 ∷ 1 ∷ 2 ∷ 1 ∷ []))
-    -- "a first meeting: verdicts all 0."
+    -- "a first meeting: verdicts all 0.", of every two heads up to 9, the first size with order entries of two bytes, and of two above
     ∷ (firsts 2 gives firstMeetings 2)
     ∷ (firsts 3 gives firstMeetings 3)
     ∷ (firsts 4 gives firstMeetings 4)
@@ -66,6 +71,13 @@ table =
     ∷ (firsts 7 gives firstMeetings 7)
     ∷ (firsts 8 gives firstMeetings 8)
     ∷ (firsts 9 gives firstMeetings 9)
+    ∷ lastAndFirst 10
+    ∷ lastAndFirst 11
+    ∷ lastAndFirst 12
+    ∷ lastAndFirst 13
+    ∷ lastAndFirst 14
+    ∷ lastAndFirst 15
+    ∷ lastAndFirst 16
     -- "document 003's example 2.4 .., then 3-5: 2, 2, 0, 2, 2." and "instead 1-2: 0, 2, 0, 2, 2."
     ∷ (verdicts 5 example-2-4 3 5 gives (2 ∷ 2 ∷ 0 ∷ 2 ∷ 2 ∷ []))
     ∷ (verdicts 5 example-2-4 1 2 gives (0 ∷ 2 ∷ 0 ∷ 2 ∷ 2 ∷ []))

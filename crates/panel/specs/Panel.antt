@@ -1,6 +1,6 @@
 -- The wall panel.
--- Request 2026-08: "From one head's image it writes eight text lines at most into a lent buffer of 128 bytes: rank, stall, yield in litres with one decimal (18
--- becomes `1.8`), or `-` for not milked, single blanks between, newline after each, numbers without leading zeros (0 becomes `0.0`)."
+-- Request 2026-08: "From one head's image it writes .. into a lent buffer ..: rank, stall, yield in litres with one decimal (18 becomes `1.8`), or `-` for not milked,
+-- single blanks between, newline after each, numbers without leading zeros (0 becomes `0.0`)."
 -- Request 2026-09: "The panel writes sixteen lines at most, and its buffer becomes 256 bytes for every N."
 use Prim.Native.Nat.{ℕ, suc, _+_, _-_, _/_, _%_}
 use mathlib.Core.Bool.{not, cond}
