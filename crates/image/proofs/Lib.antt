@@ -3,6 +3,7 @@ pub mod Search
 pub mod Counts
 pub mod Bits
 pub mod Windows
+pub mod Stopping
 pub mod Lanes
 pub mod Tables
 pub mod Gather

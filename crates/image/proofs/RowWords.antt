@@ -1,18 +1,23 @@
--- The names of a row by words of four, what stands behind the row cut off.
-use Prim.Native.Nat.{ℕ, min, _+_, _-_, _*_, _%_, _^_, _≤_, _<_}
-use mathlib.Core.Path.{_≡_, ap, ap₂, _∙_}
+-- The names of a row by words of four, what stands behind the row cut off; and the rows one after the other.
+use Prim.Native.Nat.{ℕ, min, suc, _+_, _-_, _*_, _%_, _^_, _≤_, _<_}
+use mathlib.Core.Path.{_≡_, sym, ap, ap₂, _∙_}
 use mathlib.Core.Bool.{Bool, false, _||_}
 use mathlib.Core.List.{List}
 use native.Mathlib.Omega.{arith}
 use borrow.Author.Tests.{le-ltb, ne-eqb}
 use lib.Bits.{bitAnd, and-mask}
-use lib.ListN.{getD}
+use lib.ListN.{length, getD}
 use Rattle.image.specs.Stalls.{some}
 use Rattle.image.specs.Lanes.{lanes, lane}
+use Rattle.image.specs.Layout.{labelLimit, rowPlace}
+use Rattle.image.specs.Frame.{Sized}
 use Rattle.image.specs.Check.{badName}
-use Rattle.image.specs.Columns.{columnsFrom}
+use Rattle.image.specs.Columns.{columnsFrom, badAt}
 use Rattle.image.proofs.Search.{some-agree}
 use Rattle.image.proofs.Windows.{one-window, some-split}
+use Rattle.image.proofs.Stopping.{Stopping}
+use Rattle.image.proofs.Places.{row-within}
+use Rattle.image.proofs.OrderEntry.{orders-long}
 use Rattle.image.proofs.Lanes.{lane-of, lane-within, lane-behind}
 use Rattle.image.proofs.NameLanes.{column-is, columns-on}
 
@@ -95,3 +100,21 @@ module _ (s : List ℕ) (bytes : (k : ℕ) → getD s k 0 < 256) where
           (behind ∙ some-agree m (λ j. bad (c + 4 + j)) (λ j. bad (c + (4 + j))) (λ j p q. let e : c + 4 + j ≡ c + (4 + j) = omega arith in ap bad e))
           (first-word 4 (omega arith))
           ∙ some-split 4 m (λ j. bad (c + j)) ∙ ap (λ i. some i (λ j. bad (c + j))) k
+
+-- The row that a loop over the rows, which counts down what is left, has come to
+
+module _ (s : List ℕ) {n at left : ℕ} {found : Bool} {f : ℕ → Bool} (w : Stopping n (n + n) 4 at left found f) where
+  -- it has room, and the yields and the marks behind it
+  pub row-room : Sized s n → 0 < left → at + n * 5 ≤ length s
+  row-room z l =
+      let e : suc (n - left) - 1 ≡ n - left = omega arith in
+      omega (arith, w .stands, w .to, z .long, orders-long n, ap (λ k. k * (n + n)) e, row-within {n = n} {r = suc (n - left)} (omega arith) (omega arith))
+
+  -- and names at their places
+  pub row-names : (c m : ℕ) {bad : Bool}
+      → bad ≡ some m (λ j. badName n (labelLimit n) (c + j) (getD s (at + (c + j - 1) * 2) 0) (getD s (at + (c + j - 1) * 2 + 1) 0))
+      → bad ≡ some m (λ j. badAt s n (suc (n - left)) (c + j))
+  row-names c m e =
+      let d : suc (n - left) - 1 ≡ n - left = omega arith in
+      let i : at ≡ rowPlace n (suc (n - left)) = w .stands ∙ ap (λ k. 4 + k * (n + n)) (sym d) in
+      e ∙ ap (λ k. some m (λ j. badName n (labelLimit n) (c + j) (getD s (k + (c + j - 1) * 2) 0) (getD s (k + (c + j - 1) * 2 + 1) 0))) i

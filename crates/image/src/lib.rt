@@ -177,11 +177,11 @@ fn names_and_marks(image: &[u8], n: u8, own: u8) -> Checked
     let stalls = bytes::wide(n);
     let stall = bytes::wide(own);
     let ownrow = bytes::row_start(stalls, stall);
-    let set = marks::heard_set(image, stalls, ownrow);
-    if names::bad_names(image, stalls, stall, ownrow, marks::has_all(set, stalls)) {
+    let latests = names::own_names(image, stalls, stall, ownrow);
+    if names::bad_names(image, stalls, stall, ownrow, latests) {
         return Checked::Refused(5);
     }
-    if marks::bad_marks(image, stalls, stall, set) {
+    if marks::bad_marks(image, stalls, stall, latests.set) {
         return Checked::Refused(6);
     }
     Checked::Good(Header { n, stall: own })

@@ -1,10 +1,9 @@
 // The order marks of an image: check 6. Sets of stalls are numbers.
 ghost use mathlib.Core.Path.{_≡_};
-ghost use Prim.Native.Nat.{_+_, _-_, _*_, _^_, _<_, _≤_};
+ghost use Prim.Native.Nat.{_-_, _^_, _<_, _≤_};
 ghost use mathlib.Core.Bool.{cond, not, _||_};
 ghost use lib.Bits.{bitAnd};
 ghost use lib.Dec.{eqb};
-ghost use lib.ListN.{length, getD};
 ghost use Rattle.image.specs.Stalls.{bits, bitOf};
 ghost use Rattle.image.specs.Layout.{largest, heardAt};
 ghost use Rattle.image.specs.Frame.{Framed};
@@ -37,24 +36,6 @@ pub fn bit_of(s: u8) -> u64
         return 0;
     }
     1u64 << (s - 1)
-}
-
-// The stalls that the row that starts at a place has a name for.
-pub(crate) fn heard_set(image: &[u8], n: usize, at: usize) -> u64
-    requires { ⌜ (at + n * 2 ≤ length (now image)) × (n ≤ largest) ⌝ }
-    ensures { λ r. ⌜ r ≡ bits n (λ c. not (eqb (getD (now (image .entry)) (at + (c - 1) * 2) 0) 0)) ⌝ }
-{
-    let mut set = 0u64;
-    let mut one = 1u64;
-    let mut place = at;
-    let mut c = 1usize;
-    while c <= n {
-        set += pick(!(image[place] == 0), one);
-        one += one;
-        place += 2;
-        c += 1;
-    }
-    set
 }
 
 // A set of stalls has all of 1 to n.

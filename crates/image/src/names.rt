@@ -6,13 +6,15 @@ ghost use lib.Dec.{eqb};
 ghost use lib.ListN.{length, getD};
 ghost use Rattle.image.specs.Stalls.{some};
 ghost use Rattle.image.specs.Lanes.{lane, pairs};
-ghost use Rattle.image.specs.Columns.{Low, columnsFrom, badAt};
-ghost use Rattle.image.specs.Layout.{labelLimit, largest, noYield, rowPlace, heardAt, word};
+ghost use Rattle.image.specs.Columns.{Low, columnsFrom, badAt, OwnNames};
+ghost use Rattle.image.specs.Layout.{labelLimit, largest, noYield, rowPlace, word};
 ghost use Rattle.image.specs.Frame.{Sized, Framed};
-ghost use Rattle.image.specs.Check.{badName, badDiagonal, badUnheard, badNames};
+ghost use Rattle.image.specs.Check.{badName, badUnheard, badNames};
 use crate::Head;
 use crate::bytes::word_at;
 use crate::bytes::yields_place;
+use crate::marks::has_all;
+use crate::marks::pick;
 use crate::marks::widen;
 use crate::words::EIGHTHS;
 use crate::words::SEVENS;
@@ -100,24 +102,47 @@ fn two_at(image: &[u8], at: usize) -> u64
     widen(image[at]) + widen(image[at + 1]) * 256
 }
 
-// Bits where some row has, in its first eight columns, a name that is bad by itself, or not the own row's name of its stall.
-fn bad_first(image: &[u8], n: usize, own: usize, ownrow: usize) -> u64
+// What the own row says: bits where some row has another name of its stall, and the stalls that it has a name for.
+pub(crate) struct Own {
+    pub bad: u64,
+    pub set: u64,
+}
+
+// The own row, which starts at a place, against the name of each row's own stall.
+pub(crate) fn own_names(image: &[u8], n: usize, own: usize, ownrow: usize) -> Own
     requires { ⌜ Framed (now image) n own × (ownrow ≡ rowPlace n own) ⌝ }
-    ensures { λ b. ⌜ not (eqb b 0) ≡ some n (λ r. some (min n 8) (badAt (now (image .entry)) n r) || badDiagonal (now (image .entry)) n own r) ⌝ }
+    ensures { λ r. ⌜ OwnNames (now (image .entry)) n own (r .bad) (r .set) ⌝ }
 {
     let mut bad = 0u64;
-    let mut at = 4usize;
+    let mut set = 0u64;
+    let mut one = 1u64;
     let mut here = 4usize;
     let mut there = ownrow;
     let mut r = 1usize;
     while r <= n {
-        bad = bad_in_row(image, n, at, 0, FIRST_COLUMNS)
-            | (two_at(image, here) ^ two_at(image, there))
-            | bad;
-        at += n + n;
+        bad = (two_at(image, here) ^ two_at(image, there)) | bad;
+        set += pick(!(image[there] == 0), one);
+        one += one;
         here += n + n + 2;
         there += 2;
         r += 1;
+    }
+    Own { bad, set }
+}
+
+// Bits where some row has, in its first eight columns, a name that is bad by itself. That it stops at a bad one keeps the compiler from taking two
+// rows at once, for which it would multiply.
+fn bad_first(image: &[u8], n: usize) -> u64
+    requires { ⌜ Sized (now image) n ⌝ }
+    ensures { λ b. ⌜ not (eqb b 0) ≡ some n (λ r. some (min n 8) (badAt (now (image .entry)) n r)) ⌝ }
+{
+    let mut bad = 0u64;
+    let mut at = 4usize;
+    let mut left = n;
+    while (0 < left) & (bad == 0) {
+        bad = bad_in_row(image, n, at, 0, FIRST_COLUMNS);
+        at += n + n;
+        left -= 1;
     }
     bad
 }
@@ -129,21 +154,21 @@ fn bad_behind(image: &[u8], n: usize, c: usize, columns: u64) -> u64
 {
     let mut bad = 0u64;
     let mut at = 4usize;
-    let mut r = 1usize;
-    while r <= n {
-        bad = bad_in_row(image, n, at, c, columns) | bad;
+    let mut left = n;
+    while (0 < left) & (bad == 0) {
+        bad = bad_in_row(image, n, at, c, columns);
         at += n + n;
-        r += 1;
+        left -= 1;
     }
     bad
 }
 
-// Some row has a name that is bad by itself, or not the own row's name of its stall.
-fn bad_rows(image: &[u8], n: usize, own: usize, ownrow: usize) -> bool
-    requires { ⌜ Framed (now image) n own × (ownrow ≡ rowPlace n own) ⌝ }
-    ensures { λ b. ⌜ b ≡ some n (λ r. some n (badAt (now (image .entry)) n r) || badDiagonal (now (image .entry)) n own r) ⌝ }
+// Bits where some row has a name that is bad by itself.
+fn bad_rows(image: &[u8], n: usize) -> u64
+    requires { ⌜ Sized (now image) n ⌝ }
+    ensures { λ b. ⌜ not (eqb b 0) ≡ some n (λ r. some n (badAt (now (image .entry)) n r)) ⌝ }
 {
-    let mut bad = bad_first(image, n, own, ownrow);
+    let mut bad = bad_first(image, n);
     let mut columns = FIRST_COLUMNS;
     let mut c = 8usize;
     while c < n {
@@ -151,7 +176,7 @@ fn bad_rows(image: &[u8], n: usize, own: usize, ownrow: usize) -> bool
         bad = bad_behind(image, n, c, columns) | bad;
         c += 8;
     }
-    !(bad == 0)
+    bad
 }
 
 // No partner stands at a place, and a row has a name, or a yield is one.
@@ -188,13 +213,13 @@ fn bad_unheards(image: &[u8], n: usize, own: usize, ownrow: usize) -> bool
     bad
 }
 
-// Check 5, by whether all stalls are heard.
-pub(crate) fn bad_names(image: &[u8], n: usize, own: usize, ownrow: usize, all: bool) -> bool
-    requires { ⌜ Framed (now image) n own × (ownrow ≡ rowPlace n own) × (all ≡ not (some n (λ r. not (heardAt (now image) n own r)))) ⌝ }
+// Check 5, by what the own row says.
+pub(crate) fn bad_names(image: &[u8], n: usize, own: usize, ownrow: usize, names: Own) -> bool
+    requires { ⌜ Framed (now image) n own × (ownrow ≡ rowPlace n own) × OwnNames (now image) n own (names .bad) (names .set) ⌝ }
     ensures { λ b. ⌜ b ≡ badNames (now (image .entry)) n own ⌝ }
 {
-    let bad = bad_rows(image, n, own, ownrow);
-    if all {
+    let bad = !((bad_rows(image, n) | names.bad) == 0);
+    if has_all(names.set, n) {
         return bad;
     }
     bad | bad_unheards(image, n, own, ownrow)

@@ -1,17 +1,15 @@
 -- Check 6, by the set of heard stalls.
 use Prim.Native.Nat.{ℕ, _+_, _-_, _*_, _%_, _^_, _≤_, _<_}
-use mathlib.Core.Path.{_≡_, refl, sym, ap, ap₂, _∙_}
-use mathlib.Core.Bool.{Bool, false, _||_, not, cond}
+use mathlib.Core.Path.{_≡_, refl, ap, _∙_}
+use mathlib.Core.Bool.{Bool, not}
 use mathlib.Core.List.{List}
 use native.Mathlib.Omega.{arith}
 use native.Mathlib.Decide.{decLt, ℕ-discrete}
 use borrow.Author.Needs.{needs}
 use lib.Dec.{eqb}
-use lib.ListN.{length, getD}
 use lib.Pow.{shl-exact}
-use Rattle.image.specs.Stalls.{some, bits}
-use Rattle.image.specs.Layout.{largest, orderAt, orderFrom, orderPlace, orderWidth, ordersPlace, imageLength, heardAt}
-use Rattle.image.specs.Frame.{Framed}
+use Rattle.image.specs.Stalls.{some}
+use Rattle.image.specs.Layout.{largest, orderFrom, orderWidth, ordersPlace, imageLength}
 use Rattle.image.specs.Check.{badOrder, badMarks}
 use Rattle.image.proofs.Search.{Looked, looked-start, looked-next, looked-as, looked-end}
 use Rattle.image.proofs.Places.{orders-from}

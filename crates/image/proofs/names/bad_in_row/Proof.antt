@@ -1,11 +1,9 @@
 -- Some of eight names of a row is bad by itself.
-use Prim.Native.Nat.{ℕ, _+_, _-_, _*_, _≤_, _<_}
+use Prim.Native.Nat.{ℕ, _+_, _-_, _≤_}
 use mathlib.Core.Path.{_≡_, ap, ap₂, subst, sym, _∙_}
 use mathlib.Core.Bool.{_||_}
-use mathlib.Core.List.{List}
 use native.Mathlib.Omega.{arith}
 use borrow.Author.Needs.{needs}
-use lib.ListN.{getD}
 use Rattle.image.specs.Columns.{Low, columnsFrom}
 use Rattle.image.specs.Layout.{labelLimit}
 use Rattle.image.proofs.Lanes.{or-test}

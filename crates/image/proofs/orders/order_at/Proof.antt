@@ -1,6 +1,5 @@
 -- The order entry at a place as a number.
-use Prim.Native.Nat.{_+_, _*_}
-use mathlib.Core.Path.{sym, ap₂, _∙_}
+use mathlib.Core.Path.{sym, _∙_}
 use native.Mathlib.Omega.{arith}
 use borrow.Author.Needs.{needs}
 use Rattle.image.proofs.OrderEntry.{order-wide, order-two, order-out, order-byte, order-word}

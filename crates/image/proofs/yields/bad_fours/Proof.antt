@@ -1,9 +1,7 @@
 -- Some of the numbers from a place on, four at a time.
-use Prim.Native.Nat.{ℕ, _+_, _-_, _*_, _%_, _<_, _≤_}
+use Prim.Native.Nat.{_+_, _-_, _*_, _%_, _<_}
 use mathlib.Core.Path.{_≡_, refl, ap, _∙_}
 use native.Mathlib.Omega.{arith}
-use borrow.Author.Needs.{needs}
-use lib.ListN.{getD}
 use Rattle.image.specs.Stalls.{some}
 use Rattle.image.specs.Lanes.{fours}
 use Rattle.image.proofs.YieldLanes.{bad-from, fours-next}
