@@ -77,7 +77,8 @@ pub extern "C" fn wilbryn_milking(image: &mut [u8], given: u16) -> u32
 pub extern "C" fn wilbryn_heard(image: &[u8], records: &mut [u8]) -> u32
     ensures { λ r. ⌜ _≡_ {A = HeardOutcome} (record { answer = r; records = now (records .exit) }) (heardCall (now (image .entry)) (now (records .entry))) ⌝ }
 {
-    let c = image::check(image);
+    // Lent anew: a slice passed on as it came is read as one word just after it was written as two, which waits.
+    let c = image::check(&image[..]);
     let Checked::Good(h) = c else {
         return 256 + image::number_of(c);
     };
@@ -94,7 +95,8 @@ pub extern "C" fn wilbryn_heard(image: &[u8], records: &mut [u8]) -> u32
 pub extern "C" fn wilbryn_settled(image: &[u8], counts: &mut [u8]) -> u32
     ensures { λ r. ⌜ _≡_ {A = Settled} (record { answer = r; counts = now (counts .exit) }) (settledCall (now (image .entry)) (now (counts .entry))) ⌝ }
 {
-    let c = image::check(image);
+    // Lent anew, as for the heard list.
+    let c = image::check(&image[..]);
     let Checked::Good(h) = c else {
         return image::number_of(c);
     };
