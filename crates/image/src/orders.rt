@@ -1,4 +1,4 @@
-// Order entries of an image, read and written at their places: only here does the code know how many bytes an entry has.
+// Order entries of an image, read and written at their places: but for the lengths of images, only here does the code know how many bytes an entry has.
 ghost use mathlib.Core.Path.{_≡_};
 ghost use Prim.Native.Nat.{_*_, _%_, _^_, _<_};
 ghost use lib.ListN.{getD};
