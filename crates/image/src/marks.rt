@@ -46,7 +46,7 @@ pub(crate) fn has_all(set: u64, n: usize) -> bool
     set == (1u64 << n) - 1
 }
 
-// Bits where the order entry of a stall is bad, by the stall's bit, that of the own stall, and the set of heard stalls.
+// Bits where the order entry of a stall is bad, by the stall's bit, that of the own stall, and the set of heard stalls: nothing is lost by the set, nor gained by the two bits.
 fn bad_order(order: u64, set: u64, one: u64, mine: u64) -> u64
     ensures { λ r.
         ⌜ not (eqb r 0)
@@ -56,7 +56,7 @@ fn bad_order(order: u64, set: u64, one: u64, mine: u64) -> u64
     if set & one == 0 {
         return order;
     }
-    ((order & set) ^ order) | (((order & one) ^ one) | ((order & mine) ^ mine))
+    (order & set) ^ ((order | one) | mine)
 }
 
 // Check 6, by the set of heard stalls: no mark but of a heard stall to a heard one, and of each of these to itself and to the own stall.
