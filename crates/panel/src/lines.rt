@@ -28,7 +28,7 @@ fn put_digit(text: &mut [u8], at: usize, d: usize) -> usize
     put(text, at, b'0' + (d as u8))
 }
 
-// The digits of a number below 100, which no panel's number exceeds: without a call of itself, so that the compiler copies it into a line.
+// The digits of a number below 100, which no panel's number exceeds: without a call of itself, so that the compiler copies it where it is called.
 fn put_small(text: &mut [u8], at: usize, k: usize) -> usize
     requires { ⌜ (k < 100) × Room (now text) at (decimal k) ⌝ }
     ensures { λ r. ⌜ Put (now (text .entry)) at (decimal k) (now (text .exit)) r ⌝ }
