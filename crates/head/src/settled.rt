@@ -6,25 +6,17 @@ ghost use Rattle.image.specs.Stalls.{countStalls, has};
 ghost use Rattle.image.specs.Layout.{largest};
 ghost use Rattle.image.specs.Frame.{Sized};
 ghost use Rattle.head.specs.Settled.{settledCounts};
-use image::marks::pick;
+use image::marks::bit_of;
 use image::orders::order_at;
 use image::orders::order_width;
 use image::orders::orders_place;
 
 // How many stalls of 1 to n a set has.
-fn set_size(set: u64, n: usize) -> u64
+fn set_size(set: u64, n: usize) -> u32
     requires { ⌜ n ≤ largest ⌝ }
     ensures { λ r. ⌜ (r ≡ countStalls n (has set)) × (r ≤ n) ⌝ }
 {
-    let mut count = 0u64;
-    let mut one = 1u64;
-    let mut s = 0usize;
-    while s < n {
-        count += pick(!((set & one) == 0), 1);
-        one += one;
-        s += 1;
-    }
-    count
+    u64::count_ones(set & (bit_of((n + 1) as u8) - 1))
 }
 
 // The numbers of an accepted image into a buffer of the right length.

@@ -3,13 +3,15 @@ use Prim.Native.Nat.{ℕ, zero, suc, _+_, _-_, _*_, _/_, _%_, _^_, _≤_, _<_, m
 use mathlib.Core.Path.{_≡_, refl, sym, ap, ap₂, _∙_}
 use mathlib.Core.Bool.{Bool, true, false, _&&_, _||_, not, cond, true≢false, false≢true}
 use native.Mathlib.Omega.{arith}
-use native.Mathlib.Nat.{pow-succ', div-div-eq-div-mul, mod-lt, zero-div}
+use native.Mathlib.Nat.{add-comm, pow-succ', div-div-eq-div-mul, mod-lt, mod-one, zero-div}
 use native.Mathlib.Decide.{decLe, decLt, ℕ-discrete}
 use borrow.Author.Tests.{eq-eqb, ne-eqb, le-leb, lt-leb}
 use lib.Dec.{eqb, leb}
 use lib.Bits.{bitAnd, bitOr, and-step, or-step, and-le-l, and-le-r, and-high, block-half, block-odd}
+use lib.Arith.{mod-mul}
+use lib.Count.{ones, ones-cat}
 use lib.Pow.{pow-pos, pow-add, split}
-use Rattle.image.specs.Stalls.{some, bits, has, bitOf}
+use Rattle.image.specs.Stalls.{some, count, countStalls, bits, has, bitOf}
 
 -- Digits
 
@@ -292,3 +294,19 @@ bit-left b k = and-one b k ∙ go (digit b k) (digit-lt b k) ∙ ap (λ t. cond 
 pub bitOf-is : {s : ℕ} → 1 ≤ s → s ≤ 64 → bitOf s ≡ 2 ^ (s - 1)
 unfolding bitOf
 bitOf-is {s} a b = rw (le-leb 1 s a, le-leb s 64 b)
+
+-- How many stalls of 1 to n a set has, by its digits
+
+ones-digit : (d : ℕ) → d < 2 → ones d ≡ cond (eqb d 1) 1 0
+unfolding ones
+ones-digit zero l = refl
+ones-digit (suc zero) l = refl
+ones-digit (suc (suc d)) l = absurd (omega arith)
+
+pub ones-count : (n b : ℕ) → ones (b % 2 ^ n) ≡ countStalls n (has b)
+unfolding count digit
+ones-count zero b = ap ones (mod-one b) ∙ ones-digit 0 (omega arith)
+ones-count (suc n) b =
+    ap (λ m. ones (b % m)) (pow-succ' 2 n) ∙ ap ones (mod-mul b (omega arith) (pow-pos n))
+    ∙ ones-cat n (digit b n) (b % 2 ^ n) (mod-lt b (pow-pos n)) ∙ add-comm (ones (digit b n)) _
+    ∙ ap₂ _+_ (ones-count n b) (ones-digit (digit b n) (digit-lt b n) ∙ ap (λ t. cond t 1 0) (sym (has-digit b n)))

@@ -30,6 +30,9 @@ pub decimal-large : (k : ℕ) → 10 ≤ k → decimal k ≡ decimal (k / 10) ++
 unfolding digitsIn decimal
 decimal-large k l = rw (le-ltb k 10 l) (ap (λ d. d ++ digit (k % 10) ∷ []) (digits-enough k (suc (k / 10)) (k / 10) (omega arith) (omega arith)))
 
+pub decimal-two : (k : ℕ) → 10 ≤ k → k < 100 → decimal k ≡ digit (k / 10) ∷ [] ++ digit (k % 10) ∷ []
+decimal-two k l m = decimal-large k l ∙ ap (λ d. d ++ digit (k % 10) ∷ []) (decimal-small (k / 10) (omega arith))
+
 -- what holds of a digit, and of digits with one more behind them where it holds of the tens, holds of the digits of every number
 pub decimal-elim : (P : ℕ → List ℕ → Type 0) → ((k : ℕ) → k < 10 → P k (digit k ∷ []))
     → ((k : ℕ) → 10 ≤ k → P (k / 10) (decimal (k / 10)) → P k (decimal (k / 10) ++ digit (k % 10) ∷ [])) → (k : ℕ) → P k (decimal k)

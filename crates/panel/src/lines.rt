@@ -28,13 +28,25 @@ fn put_digit(text: &mut [u8], at: usize, d: usize) -> usize
     put(text, at, b'0' + (d as u8))
 }
 
-// The digits of a number: those of its tens, then its last one. A panel has no number over 99, so no call goes deeper than two.
-fn put_number(text: &mut [u8], at: usize, k: usize) -> usize
-    requires { ⌜ Room (now text) at (decimal k) ⌝ }
+// The digits of a number below 100, which no panel's number exceeds: without a call of itself, so that the compiler copies it where it is called.
+fn put_small(text: &mut [u8], at: usize, k: usize) -> usize
+    requires { ⌜ (k < 100) × Room (now text) at (decimal k) ⌝ }
     ensures { λ r. ⌜ Put (now (text .entry)) at (decimal k) (now (text .exit)) r ⌝ }
 {
     if k < 10 {
         return put_digit(text, at, k);
+    }
+    let last = put_digit(text, at, k / 10);
+    put_digit(text, last, k % 10)
+}
+
+// The digits of a number: those of its tens, then its last one.
+fn put_number(text: &mut [u8], at: usize, k: usize) -> usize
+    requires { ⌜ Room (now text) at (decimal k) ⌝ }
+    ensures { λ r. ⌜ Put (now (text .entry)) at (decimal k) (now (text .exit)) r ⌝ }
+{
+    if k < 100 {
+        return put_small(text, at, k);
     }
     let last = put_number(text, at, k / 10);
     put_digit(text, last, k % 10)
