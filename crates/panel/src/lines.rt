@@ -28,7 +28,7 @@ fn put_digit(text: &mut [u8], at: usize, d: usize) -> usize
     put(text, at, b'0' + (d as u8))
 }
 
-// The digits of a number below 100, which no panel's number exceeds: without a call of itself, so that the compiler copies it where it is called.
+// The digits of a number below 100.
 fn put_small(text: &mut [u8], at: usize, k: usize) -> usize
     requires { ⌜ (k < 100) × Room (now text) at (decimal k) ⌝ }
     ensures { λ r. ⌜ Put (now (text .entry)) at (decimal k) (now (text .exit)) r ⌝ }
@@ -40,7 +40,19 @@ fn put_small(text: &mut [u8], at: usize, k: usize) -> usize
     put_digit(text, last, k % 10)
 }
 
-// The digits of a number: those of its tens, then its last one.
+// The digits of a number of any length: those of its tens, then its last one.
+fn put_long(text: &mut [u8], at: usize, k: usize) -> usize
+    requires { ⌜ Room (now text) at (decimal k) ⌝ }
+    ensures { λ r. ⌜ Put (now (text .entry)) at (decimal k) (now (text .exit)) r ⌝ }
+{
+    if k < 100 {
+        return put_small(text, at, k);
+    }
+    let last = put_long(text, at, k / 10);
+    put_digit(text, last, k % 10)
+}
+
+// The digits of a number. A panel has none over 99, so it never comes to the function that calls itself, and the compiler copies the rest into a line.
 fn put_number(text: &mut [u8], at: usize, k: usize) -> usize
     requires { ⌜ Room (now text) at (decimal k) ⌝ }
     ensures { λ r. ⌜ Put (now (text .entry)) at (decimal k) (now (text .exit)) r ⌝ }
@@ -48,8 +60,7 @@ fn put_number(text: &mut [u8], at: usize, k: usize) -> usize
     if k < 100 {
         return put_small(text, at, k);
     }
-    let last = put_number(text, at, k / 10);
-    put_digit(text, last, k % 10)
+    put_long(text, at, k)
 }
 
 // A yield in litres.
