@@ -1,7 +1,7 @@
 -- A fresh image: that it is accepted, its bytes, and that it stands at the front of a run with room for it.
 use Prim.Native.Nat.{ℕ, suc, _+_, _-_, _*_, _≤_, _<_}
 use mathlib.Core.Path.{_≡_, sym, ap, ap₂, _∙_}
-use mathlib.Core.Bool.{false, not}
+use mathlib.Core.Bool.{false}
 use mathlib.Core.List.{List, _∷_, _++_, append-nil}
 use native.Mathlib.Omega.{arith}
 use borrow.Author.Tests.{le-leb, lt-leb}
@@ -16,7 +16,6 @@ use Rattle.image.proofs.Zeros.{zeros-parted, zeros-between, each-zeros}
 use Rattle.image.proofs.Places.{yields-from}
 use Rattle.image.proofs.Encoding.{length-encode}
 use Rattle.image.proofs.OrderEntry.{length-is, order-zeros}
-use Rattle.image.proofs.Stages.{in-range, length-range}
 use Rattle.image.proofs.Accepted.{Accepted}
 use Rattle.image.proofs.Made.{nothing-made}
 use Rattle.image.proofs.MadeAccepted.{made-accepted}
@@ -66,48 +65,35 @@ pub no-parlour : (long n own : ℕ) → isCount n ≡ false → replicate long 0
 unfolding freshIn
 no-parlour long n own e = rw e
 
--- as it is written over zeros, by the tests: N, the stall and the current yield, then the yields of m stalls in their place
-module _ (s zeros : List ℕ) (n own m long : ℕ) (zeros-are : zeros ≡ replicate (length s) 0) (count : not (isCount n) ≡ false) (m-is : m ≡ n)
-    (long-is : long ≡ lengthOf m) (fits : long ≤ length zeros) where
-  n-in : (2 ≤ n) × (n ≤ largest)
-  n-in = in-range 2 largest n count
+-- as it is written over zeros: N, the stall and the current yield, then the yields of m stalls in their place
+module _ (zeros begun : List ℕ) (n own m long at : ℕ)
+    (asked : (2 ≤ n) × (n ≤ largest) × (long ≡ lengthOf n) × (long ≤ length zeros) × (zeros ≡ replicate (length zeros) 0)) (m-is : m ≡ n)
+    (begun-is : begun ≡ take 2 (set (set zeros 0 n) 1 own) ++ each 1 no-yield ++ drop 4 (set (set zeros 0 n) 1 own)) (at-is : at ≡ yieldsFrom long m) where
+  abbrev front : List ℕ
+  front = n ∷ own ∷ wordBytes noYield
 
-  whole : lengthOf n ≡ imageLength n
-  whole = length-is n (n-in .0) (n-in .1)
+  whole : long ≡ imageLength n
+  whole = asked .2 ∙ length-is n (asked .0) (asked .1)
 
-  same-length : length zeros ≡ length s
-  same-length = ap length zeros-are ∙ length-replicate (length s) 0
+  front-is : begun ≡ front ++ replicate (length zeros - 4) 0
+  unfolding each
+  front-is =
+      let e : length zeros ≡ suc (suc (suc (suc (length zeros - 4)))) = omega (arith, whole, asked .3) in
+      begun-is ∙ ap (λ z. take 2 (set (set z 0 n) 1 own) ++ wordBytes noYield ++ drop 4 (set (set z 0 n) 1 own)) (asked .4 ∙ ap (λ j. replicate j 0) e)
 
-  room : lengthOf n ≤ length s
-  room = omega (arith, same-length, long-is, ap lengthOf m-is)
+  place-is : at ≡ yieldsPlace n
+  place-is = yields-from whole m-is at-is
 
-  pub fresh-least : 18 ≤ length zeros
-  fresh-least = omega (arith, same-length, room, length-range n (n-in .0) (n-in .1) .0)
+  pub fresh-room : at + m * 2 ≤ length begun
+  fresh-room = omega (arith, place-is, whole, asked .3, ap length front-is, length-replicate {A = ℕ} (length zeros - 4) 0)
 
-  module _ (begun : List ℕ) (at : ℕ)
-      (begun-is : begun ≡ take 2 (set (set zeros 0 n) 1 own) ++ each 1 no-yield ++ drop 4 (set (set zeros 0 n) 1 own))
-      (at-is : at ≡ yieldsFrom long m) where
-    abbrev front : List ℕ
-    front = n ∷ own ∷ wordBytes noYield
-
-    front-is : begun ≡ front ++ replicate (length s - 4) 0
-    unfolding each
-    front-is =
-        let e : length s ≡ suc (suc (suc (suc (length s - 4)))) = omega (arith, same-length, fresh-least) in
-        begun-is ∙ ap (λ z. take 2 (set (set z 0 n) 1 own) ++ wordBytes noYield ++ drop 4 (set (set z 0 n) 1 own)) (zeros-are ∙ ap (λ j. replicate j 0) e)
-
-    place-is : at ≡ yieldsPlace n
-    place-is = yields-from (long-is ∙ ap lengthOf m-is ∙ whole) m-is at-is
-
-    pub fresh-room : at + m * 2 ≤ length begun
-    fresh-room = omega (arith, place-is, whole, room, ap length front-is, length-replicate {A = ℕ} (length s - 4) 0)
-
-    pub fresh-written : take at begun ++ each m no-yield ++ drop (at + m * 2) begun ≡ freshIn (length s) n own
-    fresh-written =
-        let rows = n * (n + n) in
-        ap₂ (λ j k. take j begun ++ each k no-yield ++ drop (j + k * 2) begun) place-is m-is
-        ∙ ap (λ l. take (yieldsPlace n) l ++ each n no-yield ++ drop (yieldsPlace n + n * 2) l) front-is
-        ∙ zeros-between front (each n no-yield) (length s - 4) rows (n * 2) (omega (arith, whole, room))
-        ∙ zeros-parted (front ++ replicate rows 0 ++ each n no-yield) (length s - 4 - (rows + n * 2)) (n * orderWidth n) (length s - lengthOf n) (omega (arith, whole, room))
-        ∙ ap (λ l. l ++ replicate (length s - lengthOf n) 0) (sym (fresh-bytes n own))
-        ∙ sym (fresh-in n own (n-in .0) (n-in .1) (length s) room)
+  pub fresh-written : take at begun ++ each m no-yield ++ drop (at + m * 2) begun ≡ freshIn (length zeros) n own
+  fresh-written =
+      let rows = n * (n + n) in
+      let rest = length zeros - lengthOf n in
+      ap₂ (λ j k. take j begun ++ each k no-yield ++ drop (j + k * 2) begun) place-is m-is
+      ∙ ap (λ l. take (yieldsPlace n) l ++ each n no-yield ++ drop (yieldsPlace n + n * 2) l) front-is
+      ∙ zeros-between front (each n no-yield) (length zeros - 4) rows (n * 2) (omega (arith, whole, asked .3))
+      ∙ zeros-parted (front ++ replicate rows 0 ++ each n no-yield) (length zeros - 4 - (rows + n * 2)) (n * orderWidth n) rest (omega (arith, whole, asked .2, asked .3))
+      ∙ ap (λ l. l ++ replicate rest 0) (sym (fresh-bytes n own))
+      ∙ sym (fresh-in n own (asked .0) (asked .1) (length zeros) (omega (arith, asked .2, asked .3)))

@@ -1,12 +1,11 @@
 -- A list overwritten: at a place, and behind what is written.
 use Prim.Native.Nat.{ℕ, suc, _+_, _≤_, _<_}
 use mathlib.Core.Path.{_≡_, sym, ap, ap₂, _∙_}
-use mathlib.Core.List.{List, [], _∷_, _++_, append-nil}
+use mathlib.Core.List.{List, [], _∷_, _++_}
 use native.Mathlib.Omega.{arith}
-use native.Mathlib.Nat.{zero-add}
 use native.Mathlib.Numerals.{add-one}
-use lib.ListN.{length, getD, take, drop, set}
-use lib.Seq.{sets-eq, paste-suc, drop-cons, set-at, append-snoc, drop-length, take-at, drop-append-add, drop-drop}
+use lib.ListN.{length, take, drop, set}
+use lib.Seq.{sets-eq, drop-cons, set-at, append-snoc, take-at, drop-append-add, drop-drop}
 
 -- one byte more behind what is written
 pub store-next : (d p : List ℕ) (i v : ℕ) → length p ≡ i → i < length d → set (p ++ drop i d) i v ≡ p ++ (v ∷ []) ++ drop (i + 1) d

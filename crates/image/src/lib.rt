@@ -1,8 +1,9 @@
 // One table as bytes: its forms in the code, its lengths, and its check.
 ghost use mathlib.Core.Path.{_≡_};
+ghost use Prim.Native.Nat.{_≤_};
 ghost use mathlib.Core.Bool.{cond};
-ghost use lib.ListN.{length};
-ghost use Rattle.image.specs.Layout.{labelLimit, lengthOf, nameFrom};
+ghost use lib.ListN.{length, replicate};
+ghost use Rattle.image.specs.Layout.{labelLimit, largest, lengthOf, nameFrom};
 ghost use Rattle.image.specs.Fresh.{freshIn};
 ghost use Rattle.image.specs.Frame.{Sized, Framed};
 ghost use Rattle.image.specs.Check.{badNames, badMarks, checkBody, checked, numberOf};
@@ -107,16 +108,24 @@ impl Head {
         if bytes::bad_count(n) {
             return;
         }
-        let m = bytes::wide(n);
-        let long = length_of(m);
+        let long = length_of(bytes::wide(n));
         if image.len() < long {
             return;
         }
-        image[0] = n;
-        image[1] = self.stall;
-        yields::put_no_yields(image, 2, 1);
-        yields::put_no_yields(image, bytes::yields_place(long, m), m);
+        put_fresh(image, n, self.stall, long);
     }
+}
+
+// A fresh image, which is so long, over zeros.
+fn put_fresh(image: &mut [u8], n: u8, stall: u8, long: usize)
+    requires { ⌜ (2 ≤ n) × (n ≤ largest) × (long ≡ lengthOf n) × (long ≤ length (now image)) × (now image ≡ replicate (length (now image)) 0) ⌝ }
+    ensures { λ r. ⌜ now (image .exit) ≡ freshIn (length (now (image .entry))) n stall ⌝ }
+{
+    let m = bytes::wide(n);
+    image[0] = n;
+    image[1] = stall;
+    yields::put_no_yields(image, 2, 1);
+    yields::put_no_yields(image, bytes::yields_place(long, m), m);
 }
 
 fn widen_length(x: u16) -> usize

@@ -1,15 +1,11 @@
 -- The slots of a state: where they stand, and those of a parlour just opened.
-use Prim.Native.Nat.{ℕ, _+_, _-_, _*_, _≤_, _<_}
+use Prim.Native.Nat.{ℕ, _+_, _*_, _≤_, _<_}
 use mathlib.Core.Path.{_≡_, sym, ap, _∙_}
 use mathlib.Core.List.{List, [], _∷_, _++_, append-nil}
 use native.Mathlib.Omega.{arith}
-use native.Mathlib.Numerals.{add-one}
 use native.Mathlib.Decide.{decLe}
 use borrow.Author.Tests.{le-leb, lt-leb}
 use lib.ListN.{length, take, drop, set, replicate, drop-of-length-le}
-use lib.Seq.{paste, take-all}
-use Rattle.image.proofs.Has.{length-each-to}
-use Rattle.image.proofs.Blocks.{blocks, blocks-next}
 use Rattle.image.specs.Stalls.{each}
 use Rattle.image.specs.Layout.{largest, lengthOf, longest}
 use Rattle.image.specs.Fresh.{freshIn}

@@ -1,5 +1,5 @@
 -- The check of a packed image is that of its unpacked form, and that of what is handed to the plain calls.
-use Prim.Native.Nat.{ℕ, _*_, _≤_, _<_}
+use Prim.Native.Nat.{ℕ, _≤_, _<_}
 use mathlib.Core.Path.{_≡_, refl, sym, ap, subst, _∙_}
 use mathlib.Core.Bool.{Bool, true, false, _||_, not, cond, or-true}
 use mathlib.Core.List.{List, [], _∷_}

@@ -13,8 +13,6 @@ use Rattle.line.proofs.Slots.{length-slot, slots-whole}
 use Rattle.line.proofs.Lent.{part-length, part-back}
 use Rattle.line.proofs.parlour.open_slots.Statement.{statement}
 use Rattle.line.proofs.parlour.open_slots.Tie as tie
-use Rattle.line.proofs.parlour.open_slots.Reads as reads
-use Rattle.line.proofs.parlour.open_slots.Lts as lts
 
 abbrev Inv-loop : tie.InvT-loop
 Inv-loop state₀ n at₀ r₀ state at r = (r ≤ largest) × (at ≡ 1 + r * longest) × (state ≡ blocks state₀ 1 longest (freshSlot n) r) × (length state ≡ length state₀)
