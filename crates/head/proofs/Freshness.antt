@@ -1,17 +1,17 @@
 -- A fresh table, by the tests in their order.
 use Prim.Native.Nat.{ℕ, _≤_}
-use mathlib.Core.Path.{_≡_, refl, sym, ap, ap₂, _∙_}
+use mathlib.Core.Path.{_≡_, refl, sym, ap, _∙_}
 use mathlib.Core.Bool.{Bool, true, false, not}
 use mathlib.Core.List.{List}
 use native.Mathlib.Omega.{arith}
 use borrow.Author.Tests.{eq-eqb, ne-eqb, le-leb}
 use lib.Dec.{eqb}
-use lib.ListN.{length, take}
-use Rattle.image.specs.Layout.{largest, isCount, longest, lengthOf}
-use Rattle.image.specs.Fresh.{freshImage, freshTable}
+use lib.ListN.{length}
+use Rattle.image.specs.Layout.{largest, isCount, lengthOf}
+use Rattle.image.specs.Fresh.{freshImage, freshIn}
 use Rattle.image.specs.Check.{badStall}
-use Rattle.image.proofs.Stages.{in-range, length-range}
-use Rattle.image.proofs.FreshTable.{fresh-front, length-table}
+use Rattle.image.proofs.Stages.{in-range}
+use Rattle.image.proofs.FreshTable.{fresh-alone}
 use Rattle.head.specs.Calls.{Outcome, refused, accepted, freshInto, freshCall}
 
 -- By what the tests find: answered 0, it is the image; else the buffer stays
@@ -35,10 +35,6 @@ into-same false true z image s other u = refl
 into-same false false true image s other u = refl
 into-same false false false image s other u = refl
 
--- an image's length, by the test of N
-lengths : (n : ℕ) → not (isCount n) ≡ false → (18 ≤ lengthOf n) × (lengthOf n ≤ longest)
-lengths n e = let (a, b) = in-range 2 largest n e in length-range n a b
-
 module _ (s : List ℕ) (n stall : ℕ) where
   pub fresh-1 : not (isCount n) ≡ true → refused 1 s ≡ freshCall s n stall
   unfolding freshCall
@@ -52,19 +48,13 @@ module _ (s : List ℕ) (n stall : ℕ) where
   unfolding freshCall
   fresh-3 a b c = rw (a, eq-eqb (length s) (lengthOf n) b, c)
 
-  pub fresh-short : not (isCount n) ≡ false → length s ≡ lengthOf n → length s ≤ longest
-  fresh-short a b = rw b (lengths n a .1)
-
-  pub fresh-long : (table : List ℕ) → not (isCount n) ≡ false → table ≡ freshTable n stall → length table ≡ longest
-  fresh-long table a e = let (p, q) = in-range 2 largest n a in ap length e ∙ length-table n stall p q
-
-  pub fresh-done : (out table : List ℕ) → not (isCount n) ≡ false → length s ≡ lengthOf n → badStall n stall ≡ false
-      → out ≡ take (length s) table → table ≡ freshTable n stall → accepted out ≡ freshCall s n stall
+  pub fresh-done : (out : List ℕ) → not (isCount n) ≡ false → length s ≡ lengthOf n → badStall n stall ≡ false → out ≡ freshIn (length s) n stall
+      → accepted out ≡ freshCall s n stall
   unfolding freshCall
-  fresh-done out table a b c d e =
+  fresh-done out a b c d =
       let (p, q) = in-range 2 largest n a in
       rw (a, eq-eqb (length s) (lengthOf n) b, c)
-      (ap accepted (d ∙ ap₂ take b e ∙ fresh-front n stall p q))
+      (ap accepted (d ∙ ap (λ k. freshIn k n stall) b ∙ fresh-alone n stall p q))
 
   -- For callers: none of 1 to 3 applies ..
   pub fresh-taken : 2 ≤ n → n ≤ largest → length s ≡ lengthOf n → 1 ≤ stall → stall ≤ n → accepted (freshImage n stall) ≡ freshCall s n stall

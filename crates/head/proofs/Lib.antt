@@ -1,7 +1,6 @@
 -- The lemmas of `head`. What crates above cite is `pub mod`.
 pub mod Milking
 pub mod Freshness
-pub mod Stores
 pub mod Gathering
 pub mod Listed
 pub mod HeardLists

@@ -1,9 +1,9 @@
 // The heard list: records of three bytes, a stall and its yield, in ranking order.
 ghost use mathlib.Core.Path.{_≡_};
-ghost use Prim.Native.Nat.{_+_, _-_, _*_, _≤_, _<_};
+ghost use Prim.Native.Nat.{_+_, _*_, _≤_, _<_};
 ghost use mathlib.Core.Bool.{not, cond};
 ghost use mathlib.Core.List.{_++_, flatMap};
-ghost use lib.ListN.{length, take, drop, replicate};
+ghost use lib.ListN.{length, take, drop};
 ghost use Rattle.image.specs.Frame.{Framed};
 ghost use Rattle.image.specs.Layout.{largest, word};
 ghost use Rattle.image.specs.Row.{isNever};
@@ -11,6 +11,7 @@ ghost use Rattle.head.specs.Heard.{bytesOf, HeardOutcome, heardList};
 ghost use Rattle.head.specs.Gathered.{recordsTo};
 use image::Entry;
 use image::STALLS;
+use image::bytes::clear_from;
 use image::bytes::wide;
 use image::bytes::yields_place;
 use image::rows::is_never;
@@ -91,17 +92,6 @@ fn put_records(bytes: &mut [u8], records: [Record; STALLS], count: usize)
     let mut i = 0usize;
     while i < count {
         put_record(bytes, 3 * i, records[i]);
-        i += 1;
-    }
-}
-
-// Zeros from a place on, if there is anything.
-pub fn clear_from(bytes: &mut [u8], at: usize)
-    ensures { λ r. ⌜ now (bytes .exit) ≡ take at (now (bytes .entry)) ++ replicate (length (now (bytes .entry)) - at) 0 ⌝ }
-{
-    let mut i = at;
-    while i < bytes.len() {
-        bytes[i] = 0;
         i += 1;
     }
 }

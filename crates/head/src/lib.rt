@@ -1,8 +1,5 @@
 // The calls of a head, as C firmware links them.
 ghost use mathlib.Core.Path.{_≡_};
-ghost use Prim.Native.Nat.{_≤_};
-ghost use lib.ListN.{length, take};
-ghost use Rattle.image.specs.Layout.{longest};
 ghost use Rattle.head.specs.Calls.{Outcome, freshCall, milkingCall};
 ghost use Rattle.head.specs.Heard.{HeardOutcome, heardCall};
 ghost use Rattle.head.specs.Settled.{Settled, settledCall};
@@ -10,7 +7,6 @@ ghost use Rattle.image.specs.Check.{checked, numberOf};
 ghost use Rattle.merge.specs.Call.{MeetingOutcome, meetingCall};
 use image::Checked;
 use image::Head;
-use image::LONGEST;
 
 pub mod heard;
 mod settled;
@@ -21,18 +17,6 @@ pub extern "C" fn wilbryn_check(image: &[u8]) -> u32
     ensures { λ r. ⌜ r ≡ numberOf (checked (now (image .entry))) ⌝ }
 {
     image::number_of(image::check(image))
-}
-
-// The image as the first bytes of a table.
-fn write_table(image: &mut [u8], table: [u8; LONGEST])
-    requires { ⌜ (length (now image) ≤ longest) × (length table ≡ longest) ⌝ }
-    ensures { λ r. ⌜ now (image .exit) ≡ take (length (now (image .entry))) table ⌝ }
-{
-    let mut i = 0usize;
-    while i < image.len() {
-        image[i] = table[i];
-        i += 1;
-    }
 }
 
 // A fresh table of a parlour of n heads, for the head at a stall.
@@ -49,9 +33,7 @@ pub extern "C" fn wilbryn_fresh(image: &mut [u8], n: u8, stall: u8) -> u32
     if image::bytes::bad_stall(n, stall) {
         return 3;
     }
-    let table = Head::fresh(n, stall);
-    let bytes = table.image;
-    write_table(image, bytes);
+    Head::fresh(n, stall).write(image);
     0
 }
 

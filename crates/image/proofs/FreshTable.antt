@@ -1,15 +1,14 @@
--- A fresh image: that it is accepted, its bytes, and that it stands at the front of a fresh table.
-use Prim.Native.Nat.{ℕ, _+_, _-_, _*_, _≤_}
+-- A fresh image: that it is accepted, its bytes, and that it stands at the front of a run with room for it.
+use Prim.Native.Nat.{ℕ, suc, _+_, _-_, _*_, _≤_, _<_}
 use mathlib.Core.Path.{_≡_, sym, ap, ap₂, _∙_}
 use mathlib.Core.Bool.{false}
-use mathlib.Core.List.{List, _∷_, _++_}
+use mathlib.Core.List.{List, _∷_, _++_, append-nil}
 use native.Mathlib.Omega.{arith}
-use borrow.Author.Tests.{le-leb}
-use lib.ListN.{length, take, drop, replicate, length-append, length-replicate}
-use lib.Seq.{take-at}
+use borrow.Author.Tests.{le-leb, lt-leb}
+use lib.ListN.{length, take, drop, set, replicate, length-append, length-replicate}
 use Rattle.image.specs.Stalls.{each}
-use Rattle.image.specs.Layout.{largest, isCount, noYield, longest, lengthOf, orderWidth, yieldsPlace, yieldsFrom}
-use Rattle.image.specs.Fresh.{freshImage, freshTable}
+use Rattle.image.specs.Layout.{largest, isCount, noYield, imageLength, lengthOf, orderWidth, yieldsPlace, yieldsFrom}
+use Rattle.image.specs.Fresh.{freshImage, freshIn}
 use Rattle.image.specs.Encode.{nothing, wordBytes, orderBytes, encode}
 use Rattle.image.proofs.Bits.{bits-none}
 use Rattle.image.proofs.YieldRange.{no-yield}
@@ -17,7 +16,6 @@ use Rattle.image.proofs.Zeros.{zeros-parted, zeros-between, each-zeros}
 use Rattle.image.proofs.Places.{yields-from}
 use Rattle.image.proofs.Encoding.{length-encode}
 use Rattle.image.proofs.OrderEntry.{length-is, order-zeros}
-use Rattle.image.proofs.Stages.{length-range}
 use Rattle.image.proofs.Accepted.{Accepted}
 use Rattle.image.proofs.Made.{nothing-made}
 use Rattle.image.proofs.MadeAccepted.{made-accepted}
@@ -41,41 +39,61 @@ module _ (n own : ℕ) (n-from : 2 ≤ n) (n-to : n ≤ largest) where
   unfolding freshImage
   length-fresh = length-encode n own nothing ∙ sym (length-is n n-from n-to)
 
-  pub fresh-table : freshTable n own ≡ freshImage n own ++ replicate (longest - lengthOf n) 0
-  unfolding freshTable
-  fresh-table = rw (le-leb 2 n n-from, le-leb n largest n-to)
+  -- at the front of a run that has room for it
+  module _ (long : ℕ) (fits : lengthOf n ≤ long) where
+    pub fresh-in : freshIn long n own ≡ freshImage n own ++ replicate (long - lengthOf n) 0
+    unfolding freshIn
+    fresh-in = rw (le-leb (lengthOf n) long fits, le-leb 2 n n-from, le-leb n largest n-to)
 
-  pub fresh-front : take (lengthOf n) (freshTable n own) ≡ freshImage n own
-  fresh-front = ap (take (lengthOf n)) fresh-table ∙ take-at (freshImage n own) (replicate (longest - lengthOf n) 0) (lengthOf n) length-fresh
+    pub length-in : length (freshIn long n own) ≡ long
+    length-in =
+        ap length fresh-in
+        ∙ length-append (freshImage n own) (replicate (long - lengthOf n) 0)
+        ∙ omega (arith, length-fresh, length-replicate {A = ℕ} (long - lengthOf n) 0)
 
-  pub length-table : length (freshTable n own) ≡ longest
-  length-table =
-      ap length fresh-table
-      ∙ length-append (freshImage n own) (replicate (longest - lengthOf n) 0)
-      ∙ omega (arith, length-fresh, length-replicate {A = ℕ} (longest - lengthOf n) 0, length-range n n-from n-to .1)
+  -- in a run of its length it stands alone
+  pub fresh-alone : freshIn (lengthOf n) n own ≡ freshImage n own
+  fresh-alone =
+      let e : lengthOf n - lengthOf n ≡ 0 = omega arith in
+      fresh-in (lengthOf n) (omega arith) ∙ ap (λ k. freshImage n own ++ replicate k 0) e ∙ append-nil (freshImage n own)
 
-  -- as it is written: N, the stall and the current yield, then zeros, then the yields of m stalls in their place
-  module _ (m at : ℕ) (begun : List ℕ) (m-is : m ≡ n) (at-is : at ≡ yieldsFrom (lengthOf m) m)
-      (begun-is : begun ≡ (n ∷ own ∷ wordBytes noYield) ++ replicate (longest - 4) 0) where
-    place-is : at ≡ yieldsPlace n
-    place-is = yields-from {long = lengthOf m} (ap lengthOf m-is ∙ length-is n n-from n-to) m-is at-is
+  pub no-room : (long : ℕ) → long < lengthOf n → replicate long 0 ≡ freshIn long n own
+  unfolding freshIn
+  no-room long l = rw (lt-leb (lengthOf n) long l, le-leb 2 n n-from, le-leb n largest n-to)
 
-    pub fresh-room : (length begun ≡ longest) × (at + m * 2 ≤ longest)
-    fresh-room = (ap length begun-is, omega (arith, place-is, length-is n n-from n-to, length-range n n-from n-to .1))
+pub no-parlour : (long n own : ℕ) → isCount n ≡ false → replicate long 0 ≡ freshIn long n own
+unfolding freshIn
+no-parlour long n own e = rw e
 
-    pub fresh-written : take at begun ++ each m no-yield ++ drop (at + m * 2) begun ≡ freshTable n own
-    fresh-written =
-        let front : List ℕ = n ∷ own ∷ wordBytes noYield in
-        let rows = n * (n + n) in
-        let long = length-is n n-from n-to in
-        let short = length-range n n-from n-to .1 in
-        ap₂ (λ j k. take j begun ++ each k no-yield ++ drop (j + k * 2) begun) place-is m-is
-        ∙ ap (λ s. take (yieldsPlace n) s ++ each n no-yield ++ drop (yieldsPlace n + n * 2) s) begun-is
-        ∙ zeros-between front (each n no-yield) (longest - 4) rows (n * 2) (omega arith)
-        ∙ zeros-parted (front ++ replicate rows 0 ++ each n no-yield) (longest - 4 - (rows + n * 2)) (n * orderWidth n) (longest - lengthOf n) (omega arith)
-        ∙ ap (λ s. s ++ replicate (longest - lengthOf n) 0) (sym (fresh-bytes n own))
-        ∙ sym fresh-table
+-- as it is written over zeros: N, the stall and the current yield, then the yields of m stalls in their place
+module _ (zeros begun : List ℕ) (n own m long at : ℕ)
+    (asked : (2 ≤ n) × (n ≤ largest) × (long ≡ lengthOf n) × (long ≤ length zeros) × (zeros ≡ replicate (length zeros) 0)) (m-is : m ≡ n)
+    (begun-is : begun ≡ take 2 (set (set zeros 0 n) 1 own) ++ each 1 no-yield ++ drop 4 (set (set zeros 0 n) 1 own)) (at-is : at ≡ yieldsFrom long m) where
+  abbrev front : List ℕ
+  front = n ∷ own ∷ wordBytes noYield
 
-pub fresh-none : (n own : ℕ) → isCount n ≡ false → replicate longest 0 ≡ freshTable n own
-unfolding freshTable
-fresh-none n own e = rw e
+  whole : long ≡ imageLength n
+  whole = asked .2 ∙ length-is n (asked .0) (asked .1)
+
+  front-is : begun ≡ front ++ replicate (length zeros - 4) 0
+  unfolding each
+  front-is =
+      let e : length zeros ≡ suc (suc (suc (suc (length zeros - 4)))) = omega (arith, whole, asked .3) in
+      begun-is ∙ ap (λ z. take 2 (set (set z 0 n) 1 own) ++ wordBytes noYield ++ drop 4 (set (set z 0 n) 1 own)) (asked .4 ∙ ap (λ j. replicate j 0) e)
+
+  place-is : at ≡ yieldsPlace n
+  place-is = yields-from whole m-is at-is
+
+  pub fresh-room : at + m * 2 ≤ length begun
+  fresh-room = omega (arith, place-is, whole, asked .3, ap length front-is, length-replicate {A = ℕ} (length zeros - 4) 0)
+
+  pub fresh-written : take at begun ++ each m no-yield ++ drop (at + m * 2) begun ≡ freshIn (length zeros) n own
+  fresh-written =
+      let rows = n * (n + n) in
+      let rest = length zeros - lengthOf n in
+      ap₂ (λ j k. take j begun ++ each k no-yield ++ drop (j + k * 2) begun) place-is m-is
+      ∙ ap (λ l. take (yieldsPlace n) l ++ each n no-yield ++ drop (yieldsPlace n + n * 2) l) front-is
+      ∙ zeros-between front (each n no-yield) (length zeros - 4) rows (n * 2) (omega (arith, whole, asked .3))
+      ∙ zeros-parted (front ++ replicate rows 0 ++ each n no-yield) (length zeros - 4 - (rows + n * 2)) (n * orderWidth n) rest (omega (arith, whole, asked .2, asked .3))
+      ∙ ap (λ l. l ++ replicate rest 0) (sym (fresh-bytes n own))
+      ∙ sym (fresh-in n own (asked .0) (asked .1) (length zeros) (omega (arith, asked .2, asked .3)))

@@ -1,16 +1,11 @@
--- A list overwritten: from the front element by element, at a place, and behind what is written.
+-- A list overwritten: at a place, and behind what is written.
 use Prim.Native.Nat.{ℕ, suc, _+_, _≤_, _<_}
 use mathlib.Core.Path.{_≡_, sym, ap, ap₂, _∙_}
-use mathlib.Core.List.{List, [], _∷_, _++_, append-nil}
+use mathlib.Core.List.{List, [], _∷_, _++_}
 use native.Mathlib.Omega.{arith}
-use native.Mathlib.Nat.{zero-add}
 use native.Mathlib.Numerals.{add-one}
-use lib.ListN.{length, getD, take, drop, set}
-use lib.Seq.{sets-eq, paste-suc, drop-cons, set-at, append-snoc, drop-length, take-at, drop-append-add, drop-drop}
-
--- one byte more
-pub overwrite-next : (d t image : List ℕ) (i : ℕ) → i < length d → i < length t → image ≡ take i t ++ drop i d → set image i (getD t i 0) ≡ take (i + 1) t ++ drop (i + 1) d
-overwrite-next d t image i a b e = rw (add-one, e) (simp zero-add at (paste-suc d 0 t i 0 (omega arith) b))
+use lib.ListN.{length, take, drop, set}
+use lib.Seq.{sets-eq, drop-cons, set-at, append-snoc, take-at, drop-append-add, drop-drop}
 
 -- one byte more behind what is written
 pub store-next : (d p : List ℕ) (i v : ℕ) → length p ≡ i → i < length d → set (p ++ drop i d) i v ≡ p ++ (v ∷ []) ++ drop (i + 1) d
@@ -21,10 +16,13 @@ store-next d p i v e l =
 pub store-two : (d : List ℕ) (at x y : ℕ) → at + 2 ≤ length d → set (set d at x) (at + 1) y ≡ take at d ++ (x ∷ y ∷ []) ++ drop (at + 2) d
 store-two d at x y l = let a : at + 1 ≡ suc at = omega arith in rw a (sets-eq (x ∷ y ∷ []) d at l)
 
--- all of them
-pub overwrite-end : (d t image : List ℕ) (i : ℕ) → length d ≤ i → i ≤ length d → image ≡ take i t ++ drop i d → image ≡ take (length d) t
-overwrite-end d t image i a b e =
-    e ∙ ap (λ k. take k t ++ drop k d) (let j : i ≡ length d = omega arith in j) ∙ ap (λ r. take (length d) t ++ r) (drop-length d) ∙ append-nil _
+-- three bytes at a place
+pub store-three : (d : List ℕ) (at x y z : ℕ) → at + 3 ≤ length d
+    → set (set (set d at x) (at + 1) y) (at + 2) z ≡ take at d ++ (x ∷ y ∷ z ∷ []) ++ drop (at + 3) d
+store-three d at x y z l =
+    let a : at + 1 ≡ suc at = omega arith in
+    let b : at + 2 ≡ suc (suc at) = omega arith in
+    rw (a, b) (sets-eq (x ∷ y ∷ z ∷ []) d at l)
 
 -- more of d overwritten behind what is written
 pub behind : (p d x : List ℕ) (at k : ℕ) → length p ≡ at → take at (p ++ drop at d) ++ x ++ drop (at + k) (p ++ drop at d) ≡ p ++ x ++ drop (at + k) d

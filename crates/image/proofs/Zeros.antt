@@ -1,11 +1,12 @@
--- Runs of zeros: a part of one, zeros behind other bytes, and blocks of zeros one after the other.
-use Prim.Native.Nat.{ℕ, zero, suc, _+_, _-_, _*_, _≤_}
+-- Runs of zeros: a part of one, zeros behind other bytes, blocks of zeros one after the other, and zeros written one by one.
+use Prim.Native.Nat.{ℕ, zero, suc, _+_, _-_, _*_, _≤_, _<_}
 use mathlib.Core.Path.{_≡_, refl, sym, ap, ap₂, _∙_}
-use mathlib.Core.List.{List, _∷_, _++_, append-assoc}
+use mathlib.Core.List.{List, [], _∷_, _++_, append-assoc, append-nil}
 use native.Mathlib.Omega.{arith}
-use lib.ListN.{length, take, drop, replicate, replicate-append-replicate}
-use lib.Seq.{take-append-add, drop-append-add}
+use lib.ListN.{length, take, drop, set, replicate, length-append, length-replicate, replicate-append-replicate, take-append-drop, drop-of-length-le}
+use lib.Seq.{length-take-le, take-append-add, drop-append-add}
 use Rattle.image.specs.Stalls.{each}
+use Rattle.image.proofs.Overwrite.{store-next}
 
 pub take-zeros : (k m : ℕ) → k ≤ m → take {A = ℕ} k (replicate m 0) ≡ replicate k 0
 take-zeros zero m l = refl
@@ -37,3 +38,31 @@ each-zeros zero w = let e : 0 ≡ 0 * w = omega arith in ap (λ j. replicate {A 
 each-zeros (suc n) w =
     let e : n * w + w ≡ suc n * w = omega arith in
     ap (λ l. l ++ replicate w 0) (each-zeros n w) ∙ replicate-append-replicate (n * w) w 0 ∙ ap (λ j. replicate {A = ℕ} j 0) e
+
+-- zeros from a place on, as far as they are written
+pub cleared : List ℕ → ℕ → ℕ → List ℕ
+cleared d at i = take at d ++ replicate (i - at) 0 ++ drop i d
+
+pub cleared-start : (d : List ℕ) (at : ℕ) → d ≡ cleared d at at
+unfolding cleared
+cleared-start d at =
+    let e : at - at ≡ 0 = omega arith in
+    sym (ap (λ k. take at d ++ replicate k 0 ++ drop at d) e ∙ ap (λ r. r ++ drop at d) (append-nil (take at d)) ∙ take-append-drop at d)
+
+pub cleared-next : (d : List ℕ) (at i : ℕ) → at ≤ i → i < length d → set (cleared d at i) i 0 ≡ cleared d at (i + 1)
+unfolding cleared
+cleared-next d at i a l =
+    let long : length (take at d ++ replicate (i - at) 0) ≡ i =
+    length-append (take at d) (replicate (i - at) 0) ∙ omega (arith, length-take-le at d (omega arith), length-replicate {A = ℕ} (i - at) 0) in
+    let j : i - at + 1 ≡ i + 1 - at = omega arith in
+    store-next d (take at d ++ replicate (i - at) 0) i 0 long l
+    ∙ ap (λ r. r ++ drop (i + 1) d) (append-assoc (take at d) (replicate (i - at) 0) (0 ∷ []) ∙ ap (λ r. take at d ++ r) (replicate-append-replicate (i - at) 1 0))
+    ∙ ap (λ m. take at d ++ replicate m 0 ++ drop (i + 1) d) j
+
+pub cleared-end : (d : List ℕ) (at i : ℕ) → length d ≤ i → i - at ≡ length d - at → cleared d at i ≡ take at d ++ replicate (length d - at) 0
+unfolding cleared
+cleared-end d at i l e = ap₂ (λ k r. take at d ++ replicate k 0 ++ r) e (drop-of-length-le d l) ∙ append-nil _
+
+-- from the front on, all of it
+pub cleared-whole : (d z : List ℕ) → z ≡ take 0 d ++ replicate (length d - 0) 0 → z ≡ replicate (length d) 0
+cleared-whole d z e = e ∙ ap (λ k. replicate k 0) (let i : length d - 0 ≡ length d = omega arith in i)

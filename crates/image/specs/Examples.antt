@@ -9,11 +9,11 @@ use Rattle.image.specs.Lanes.{lanes, lane, pairs}
 use Rattle.image.specs.Layout.{lengthOf, noYield, isYield, labelLimit, orderWidth, numberAt, orderFrom, markAt, nameFrom, nameAt, heardAt}
 use Rattle.image.specs.Check.{badCount, badLength, badYields, badDiagonal, badUnheard, badRow, badNames, badOrder, badMarks, checkBody, checked, numberOf}
 use Rattle.image.specs.Encode.{nothing, wordBytes, numberBytes, orderBytes, encode, tableOf}
-use Rattle.image.specs.Fresh.{freshImage, freshTable}
+use Rattle.image.specs.Fresh.{freshImage, freshIn}
 
 -- whoever unfolds this unfolds all that an image is made, read and checked with
 unfoldable pub evaluated : Unit {0}
-unfolding some each bits has noYield isYield labelLimit orderWidth numberAt numberBytes orderFrom orderBytes markAt nameFrom nameAt heardAt nothing encode tableOf freshImage freshTable badCount badLength badYields badDiagonal badUnheard badRow badNames badOrder badMarks checkBody checked
+unfolding some each bits has noYield isYield labelLimit orderWidth numberAt numberBytes orderFrom orderBytes markAt nameFrom nameAt heardAt nothing encode tableOf freshImage freshIn badCount badLength badYields badDiagonal badUnheard badRow badNames badOrder badMarks checkBody checked
 evaluated = tt
 
 -- not milked, and the bytes of so many such yields
@@ -27,9 +27,11 @@ notMilked count = replicate (count * 2) 0xff
 -- Request 2026-01: ffff "is the current yield of a fresh head, and the stall yield of a stall never heard"; "its names and marks are still zeros"
 fresh-examples : (freshImage 2 1 ≡ (2 ∷ 1 ∷ notMilked 1) ++ replicate 8 0 ++ notMilked 2 ++ replicate 2 0)
     × (freshImage 3 2 ≡ (3 ∷ 2 ∷ notMilked 1) ++ replicate 18 0 ++ notMilked 3 ++ replicate 3 0)
-    × (freshTable 8 5 ≡ (8 ∷ 5 ∷ notMilked 1) ++ replicate 128 0 ++ notMilked 8 ++ replicate 432 0)
+    × (freshIn 160 8 5 ≡ freshImage 8 5 ++ replicate 4 0)
+    × (freshIn 155 8 5 ≡ replicate 155 0)
+    × (freshIn 160 17 5 ≡ replicate 160 0)
 unfolding evaluated
-fresh-examples = (refl, refl, refl)
+fresh-examples = (refl, refl, refl, refl, refl)
 
 number : List ℕ → ℕ
 number s = numberOf (checked s)

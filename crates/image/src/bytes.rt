@@ -1,9 +1,10 @@
-// Bytes of an image read as numbers, where rows and yields start, and the checks 1 and 3.
+// Bytes of an image read as numbers, where rows and yields start, the checks 1 and 3, and zeros.
 ghost use mathlib.Core.Path.{_≡_};
 ghost use Prim.Native.Nat.{_+_, _-_, _<_, _≤_};
 ghost use mathlib.Core.Bool.{cond, not};
 ghost use lib.Dec.{eqb};
-ghost use lib.ListN.{length};
+ghost use mathlib.Core.List.{_++_};
+ghost use lib.ListN.{length, take, replicate};
 ghost use Rattle.image.specs.Layout.{isCount, largest, rowPlace, word, yieldsFrom};
 ghost use Rattle.image.specs.Check.{badStall};
 use crate::LARGEST;
@@ -93,4 +94,15 @@ pub fn bad_count(n: u8) -> bool
     ensures { λ b. ⌜ b ≡ not (isCount n) ⌝ }
 {
     !is_count(n)
+}
+
+// Zeros from a place on, if there is anything.
+pub fn clear_from(bytes: &mut [u8], at: usize)
+    ensures { λ r. ⌜ now (bytes .exit) ≡ take at (now (bytes .entry)) ++ replicate (length (now (bytes .entry)) - at) 0 ⌝ }
+{
+    let mut i = at;
+    while i < bytes.len() {
+        bytes[i] = 0;
+        i += 1;
+    }
 }

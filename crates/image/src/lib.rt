@@ -1,8 +1,10 @@
 // One table as bytes: its forms in the code, its lengths, and its check.
 ghost use mathlib.Core.Path.{_≡_};
+ghost use Prim.Native.Nat.{_≤_};
 ghost use mathlib.Core.Bool.{cond};
-ghost use Rattle.image.specs.Layout.{labelLimit, lengthOf, nameFrom};
-ghost use Rattle.image.specs.Fresh.{freshTable};
+ghost use lib.ListN.{length, replicate};
+ghost use Rattle.image.specs.Layout.{labelLimit, largest, lengthOf, nameFrom};
+ghost use Rattle.image.specs.Fresh.{freshIn};
 ghost use Rattle.image.specs.Frame.{Sized, Framed};
 ghost use Rattle.image.specs.Check.{badNames, badMarks, checkBody, checked, numberOf};
 
@@ -52,9 +54,10 @@ pub enum Checked {
     Refused(u32),
 }
 
-// The table of one head by value: its image, then zeros.
+// The table of a head that has heard nobody: N and its stall say all of it.
 pub struct Head {
-    pub image: [u8; LONGEST],
+    pub n: u8,
+    pub stall: u8,
 }
 
 // Image lengths by the number of stalls; in two bytes each, since the table is laid out anew at each look.
@@ -91,21 +94,38 @@ impl Head {
     }
 
     pub fn fresh(n: u8, stall: u8) -> Head
-        ensures { λ r. ⌜ r .image ≡ freshTable n stall ⌝ }
+        ensures { λ r. ⌜ r ≡ record { n = n; stall = stall } ⌝ }
     {
-        let mut image = [0u8; LONGEST];
-        if bytes::bad_count(n) {
-            return Head { image };
-        }
-        image[0] = n;
-        image[1] = stall;
-        let m = bytes::wide(n);
-        let begun = yields::with_no_yields(image, 2, 1);
-        let at = bytes::yields_place(length_of(m), m);
-        Head {
-            image: yields::with_no_yields(begun, at, m),
-        }
+        Head { n, stall }
     }
+
+    // Its image at the front of a run, then zeros; zeros alone where it has no room, or n is that of no parlour.
+    pub fn write(self, image: &mut [u8])
+        ensures { λ r. ⌜ now (image .exit) ≡ freshIn (length (now (image .entry))) (self .n) (self .stall) ⌝ }
+    {
+        bytes::clear_from(image, 0);
+        let n = self.n;
+        if bytes::bad_count(n) {
+            return;
+        }
+        let long = length_of(bytes::wide(n));
+        if image.len() < long {
+            return;
+        }
+        put_fresh(image, n, self.stall, long);
+    }
+}
+
+// A fresh image, which is so long, over zeros.
+fn put_fresh(image: &mut [u8], n: u8, stall: u8, long: usize)
+    requires { ⌜ (2 ≤ n) × (n ≤ largest) × (long ≡ lengthOf n) × (long ≤ length (now image)) × (now image ≡ replicate (length (now image)) 0) ⌝ }
+    ensures { λ r. ⌜ now (image .exit) ≡ freshIn (length (now (image .entry))) n stall ⌝ }
+{
+    let m = bytes::wide(n);
+    image[0] = n;
+    image[1] = stall;
+    yields::put_no_yields(image, 2, 1);
+    yields::put_no_yields(image, bytes::yields_place(long, m), m);
 }
 
 fn widen_length(x: u16) -> usize

@@ -7,12 +7,11 @@ ghost use lib.Dec.{eqb};
 ghost use lib.ListN.{length, take, drop};
 ghost use Rattle.image.specs.Stalls.{some, each};
 ghost use Rattle.image.specs.Lanes.{lane, fours};
-ghost use Rattle.image.specs.Layout.{isYield, largest, longest, noYield, word};
+ghost use Rattle.image.specs.Layout.{isYield, largest, noYield, word};
 ghost use Rattle.image.specs.Encode.{wordBytes};
 ghost use Rattle.image.specs.Frame.{Sized};
 ghost use Rattle.image.specs.Check.{badYields};
 use crate::Head;
-use crate::LONGEST;
 use crate::bytes::word_at;
 use crate::orders::orders_place;
 use crate::words::FIFTEENS;
@@ -87,12 +86,11 @@ pub(crate) fn bad_yields(image: &[u8], n: usize) -> bool
     !is_yield(word_at(image, 2)) | some_bad_yield(image, n, orders_place(image.len(), n))
 }
 
-// A table in which so many yields from a place on are those of heads that were not milked.
-pub(crate) fn with_no_yields(table: [u8; LONGEST], at: usize, count: usize) -> [u8; LONGEST]
-    requires { ⌜ (length table ≡ longest) × (at + count * 2 ≤ longest) ⌝ }
-    ensures { λ r. ⌜ r ≡ take at table ++ each count (λ s. wordBytes noYield) ++ drop (at + count * 2) table ⌝ }
+// So many yields from a place on become those of heads that were not milked.
+pub(crate) fn put_no_yields(image: &mut [u8], at: usize, count: usize)
+    requires { ⌜ at + count * 2 ≤ length (now image) ⌝ }
+    ensures { λ r. ⌜ now (image .exit) ≡ take at (now (image .entry)) ++ each count (λ s. wordBytes noYield) ++ drop (at + count * 2) (now (image .entry)) ⌝ }
 {
-    let mut image = table;
     let mut place = at;
     let mut c = 0usize;
     while c < count {
@@ -101,5 +99,4 @@ pub(crate) fn with_no_yields(table: [u8; LONGEST], at: usize, count: usize) -> [
         place += 2;
         c += 1;
     }
-    image
 }

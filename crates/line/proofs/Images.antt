@@ -12,7 +12,7 @@ use Rattle.image.specs.Layout.{largest, lengthOf, longest}
 use Rattle.image.specs.Fresh.{freshImage}
 use Rattle.image.proofs.Has.{has-part, Has, has-self, has-left, has-right, has-each}
 use Rattle.image.proofs.Stages.{length-range}
-use Rattle.image.proofs.FreshTable.{length-fresh, fresh-table}
+use Rattle.image.proofs.FreshTable.{length-fresh, fresh-in}
 use Rattle.line.specs.Parlour.{stateLength, headsOf, slotPlace, imageOf, withImage, freshSlot, freshState}
 use Rattle.line.specs.Asked.{StallOf}
 use Rattle.line.proofs.Slots.{slot-fits, length-slot}
@@ -26,7 +26,7 @@ module _ (n r : ℕ) (from : 2 ≤ n) (to : n ≤ largest) (good : StallOf n r) 
 
   image-there : Has (n ∷ each largest (freshSlot n)) (slotPlace r) (freshImage n r)
   unfolding freshSlot
-  image-there = has-left (freshImage n r) (replicate (longest - lengthOf n) 0) (rw (le-leb r n (good .to), fresh-table n r from to) at slot-there)
+  image-there = has-left (freshImage n r) (replicate (longest - lengthOf n) 0) (rw (le-leb r n (good .to), fresh-in n r from to longest (length-range n from to .1)) at slot-there)
 
   pub opened-image : imageOf (freshState n) r ≡ freshImage n r
   unfolding imageOf freshState

@@ -1,10 +1,10 @@
--- A buffer lent to a call: the front of an array of zeros, as long as the call wants it.
-use Prim.Native.Nat.{ℕ, _≤_}
-use mathlib.Core.Path.{_≡_, sym, _∙_}
-use mathlib.Core.List.{List, _++_}
+-- What is lent to a call: the front of an array of zeros, as long as the call wants it, or a part of a state.
+use Prim.Native.Nat.{ℕ, _+_, _-_, _≤_}
+use mathlib.Core.Path.{_≡_, sym, ap, _∙_}
+use mathlib.Core.List.{List, _++_, append-assoc}
 use native.Mathlib.Omega.{arith}
 use lib.ListN.{length, take, drop, replicate, length-append, length-drop, length-replicate}
-use lib.Seq.{length-take-le, take-at}
+use lib.Seq.{length-take-le, take-at, drop-drop}
 
 module _ (k size : ℕ) (fits : k ≤ size) where
   pub lent-long : k ≡ length (take {A = ℕ} k (replicate size 0))
@@ -22,3 +22,14 @@ module _ (k size : ℕ) (fits : k ≤ size) where
 
     pub the-front : take k (x ++ drop k (replicate size 0)) ≡ x
     the-front = take-at x (drop k (replicate size 0)) k (same ∙ sym lent-long)
+
+-- bytes of a state from a place on
+module _ (s : List ℕ) (at count : ℕ) where
+  pub part-length : at + count ≤ length s → length (take (at + count - at) (drop at s)) ≡ count
+  part-length fits = length-take-le (at + count - at) (drop at s) (omega (arith, length-drop at s)) ∙ omega arith
+
+  -- and the state with what the call leaves there
+  pub part-back : (x : List ℕ) → take at s ++ (x ++ drop (at + count - at) (drop at s)) ≡ take at s ++ x ++ drop (at + count) s
+  part-back x =
+      let k : at + (at + count - at) ≡ at + count = omega arith in
+      ap (λ r. take at s ++ (x ++ r)) (drop-drop (at + count - at) at s ∙ ap (λ j. drop j s) k) ∙ sym (append-assoc (take at s) x (drop (at + count) s))

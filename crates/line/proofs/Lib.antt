@@ -3,9 +3,9 @@ pub mod Hexadecimal
 pub mod Parsing
 pub mod Slots
 pub mod Numbers
+pub mod Lent
 pub mod Replying
 pub mod AtStall
-pub mod Lent
 pub mod MeetingLine
 pub mod HeardLine
 pub mod SettledLine

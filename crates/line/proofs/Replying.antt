@@ -2,10 +2,9 @@
 use Prim.Native.Nat.{ℕ, _+_, _-_, _*_, _≤_}
 use mathlib.Core.Path.{_≡_, refl, sym, ap, ap₂, _∙_}
 use mathlib.Core.Bool.{Bool, true, false, not}
-use mathlib.Core.List.{List, [], _∷_, _++_, append-assoc}
+use mathlib.Core.List.{List, [], _∷_, _++_}
 use native.Mathlib.Omega.{arith}
-use lib.ListN.{length, take, drop, length-append, length-drop}
-use lib.Seq.{drop-drop, length-take-le}
+use lib.ListN.{length, take, drop, length-append}
 use Rattle.image.specs.Layout.{largest, lengthOf, longest, isCount}
 use Rattle.image.specs.Check.{badStall}
 use Rattle.image.proofs.Stages.{in-range}
@@ -18,6 +17,7 @@ use Rattle.line.specs.Answer.{Reply, refusal, opening, milkedBy, milking
 use Rattle.line.specs.declared.frame.Frame.{Frame}
 use Rattle.line.specs.Asked.{Opened, StallOf}
 use Rattle.line.proofs.Hexadecimal.{digits-one, digits-append, length-digits}
+use Rattle.line.proofs.Lent.{part-length, part-back}
 
 -- what is written, and more behind it
 pub written-one : (out : List ℕ) (b : ℕ) (x : List ℕ) → x ≡ take 0 out ++ pairOf b ++ drop (0 + 2) out → x ≡ written out (b ∷ [])
@@ -64,15 +64,13 @@ module _ (state out : List ℕ) (stall at count : ℕ) (opened : Opened state ou
   the-image = let e : at + count - at ≡ lengthOf (headsOf state) = omega arith in ap₂ (λ k p. take k (drop p state)) e stands
 
   pub part-long : length (take (at + count - at) (drop at state)) ≡ count
-  part-long = length-take-le (at + count - at) (drop at state) (omega (arith, length-drop at state, image-fits)) ∙ omega arith
+  part-long = part-length state at count image-fits
 
   pub put-image : (image : List ℕ) → length image ≡ count → take at state ++ (image ++ drop (at + count - at) (drop at state)) ≡ withImage state stall image
   unfolding withImage
   put-image image e =
-      let k : at + (at + count - at) ≡ slotPlace stall + length image = omega arith in
-      ap (λ r. take at state ++ (image ++ r)) (drop-drop (at + count - at) at state)
-      ∙ sym (append-assoc (take at state) image (drop (at + (at + count - at)) state))
-      ∙ ap₂ (λ p q. take p state ++ image ++ drop q state) stands k
+      let k : at + count ≡ slotPlace stall + length image = omega arith in
+      part-back state at count image ∙ ap₂ (λ p q. take p state ++ image ++ drop q state) stands k
 
 -- the reply to a frame
 pub replied-to : (state out : List ℕ) (opened : Bool) {frame f : Frame} {o : AnswerOutcome} → frame ≡ f → o ≡ replied out (replyTo state opened f)

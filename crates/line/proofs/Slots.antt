@@ -1,28 +1,24 @@
 -- The slots of a state: where they stand, and those of a parlour just opened.
-use Prim.Native.Nat.{ℕ, _+_, _-_, _*_, _≤_, _<_}
+use Prim.Native.Nat.{ℕ, _+_, _*_, _≤_, _<_}
 use mathlib.Core.Path.{_≡_, sym, ap, _∙_}
 use mathlib.Core.List.{List, [], _∷_, _++_, append-nil}
 use native.Mathlib.Omega.{arith}
-use native.Mathlib.Numerals.{add-one}
 use native.Mathlib.Decide.{decLe}
 use borrow.Author.Tests.{le-leb, lt-leb}
 use lib.ListN.{length, take, drop, set, replicate, drop-of-length-le}
-use lib.Seq.{paste, take-all}
-use Rattle.image.proofs.Has.{length-each-to}
-use Rattle.image.proofs.Blocks.{blocks, blocks-next}
 use Rattle.image.specs.Stalls.{each}
 use Rattle.image.specs.Layout.{largest, lengthOf, longest}
-use Rattle.image.specs.Fresh.{freshTable}
+use Rattle.image.specs.Fresh.{freshIn}
 use Rattle.image.proofs.Stages.{length-range}
-use Rattle.image.proofs.FreshTable.{length-table}
+use Rattle.image.proofs.FreshTable.{length-in}
 use Rattle.line.specs.Parlour.{stateLength, slotPlace, freshSlot, freshState}
 
 -- the image of a stall lies within the state
 pub slot-fits : (n r : ℕ) → 2 ≤ n → n ≤ largest → 1 ≤ r → r ≤ n → slotPlace r + lengthOf n ≤ stateLength
 slot-fits n r a b c d = omega (arith, length-range n a b .1)
 
-module _ (n r : ℕ) (from : 2 ≤ n) (to : n ≤ largest) where
-  pub fresh-slot : r ≤ n → freshTable n r ≡ freshSlot n r
+module _ (n r : ℕ) where
+  pub fresh-slot : r ≤ n → freshIn longest n r ≡ freshSlot n r
   unfolding freshSlot
   fresh-slot l = rw (le-leb r n l)
 
@@ -30,24 +26,11 @@ module _ (n r : ℕ) (from : 2 ≤ n) (to : n ≤ largest) where
   unfolding freshSlot
   empty-slot l = rw (lt-leb r n l)
 
-  pub length-slot : length (freshSlot n r) ≡ longest
-  length-slot = elim (decLe r n) [
-    | yes l ↦ ap length (sym (fresh-slot l)) ∙ length-table n r from to
+  pub length-slot : 2 ≤ n → n ≤ largest → length (freshSlot n r) ≡ longest
+  length-slot from to = elim (decLe r n) [
+    | yes l ↦ ap length (sym (fresh-slot l)) ∙ length-in n r from to longest (length-range n from to .1)
     | no l ↦ ap length (sym (empty-slot (omega arith)))
   ]
-
--- one slot more
-module _ (d l x y : List ℕ) (n r at : ℕ) (from : 2 ≤ n) (to : n ≤ largest) (long : length d ≡ stateLength) (less : r < largest) (stands : at ≡ 1 + r * longest)
-    (so-far : l ≡ blocks d 1 longest (freshSlot n) r) (slot : x ≡ freshSlot n (r + 1)) where
-  pub slot-long : length x ≡ longest
-  slot-long = ap length slot ∙ length-slot n (r + 1) from to
-
-  pub slots-next : y ≡ paste l at x longest → y ≡ blocks d 1 longest (freshSlot n) (r + 1)
-  slots-next e =
-      e
-      ∙ ap (λ k. paste l k x longest) stands
-      ∙ blocks-next d l x 1 longest r (freshSlot n) (length-each-to longest (freshSlot n) r (λ k a b. length-slot n k from to)) (omega arith) so-far
-      (take-all longest x (omega (arith, slot-long)) ∙ slot ∙ ap (freshSlot n) (add-one r))
 
 -- the slots behind N
 pub state-opened : (s x : List ℕ) (n : ℕ) → length s ≡ stateLength → x ≡ take 1 s ++ each largest (freshSlot n) → set x 0 n ≡ freshState n

@@ -8,7 +8,7 @@ use lib.Dec.{leb}
 use lib.ListN.{length, getD, take, drop, replicate}
 use Rattle.image.specs.Stalls.{each}
 use Rattle.image.specs.Layout.{largest, longest, isCount, lengthOf}
-use Rattle.image.specs.Fresh.{freshTable}
+use Rattle.image.specs.Fresh.{freshIn}
 
 abbrev pub stateLength : ℕ
 stateLength = 1 + largest * longest
@@ -34,7 +34,7 @@ withImage state r image = take (slotPlace r) state ++ image ++ drop (slotPlace r
 
 -- a slot of a parlour of n heads just opened: a fresh table, or zeros where no head has it
 unfoldable pub freshSlot : ℕ → ℕ → List ℕ
-freshSlot n r = cond (leb r n) (freshTable n r) (replicate longest 0)
+freshSlot n r = cond (leb r n) (freshIn longest n r) (replicate longest 0)
 
 -- every byte of the state then
 unfoldable pub freshState : ℕ → List ℕ

@@ -9,6 +9,7 @@ ghost use Rattle.line.specs.Parlour.{stateLength, slotPlace, freshSlot, 
 use image::Head;
 use image::LARGEST;
 use image::LONGEST;
+use image::bytes::clear_from;
 use image::bytes::wide;
 
 // Where the slot of a stall starts.
@@ -45,16 +46,16 @@ pub(crate) fn write_image(state: &mut [u8], at: usize, count: usize, image: [u8;
     }
 }
 
-// The slot of a stall in a parlour of n heads just opened.
-fn fresh_slot(n: u8, stall: u8) -> [u8; LONGEST]
-    requires { ⌜ (2 ≤ n) × (n ≤ largest) ⌝ }
-    ensures { λ r. ⌜ r ≡ freshSlot n stall ⌝ }
+// A slot, as that of a stall in a parlour of n heads just opened.
+fn open_slot(slot: &mut [u8], n: u8, stall: u8)
+    requires { ⌜ length (now slot) ≡ longest ⌝ }
+    ensures { λ r. ⌜ now (slot .exit) ≡ freshSlot n stall ⌝ }
 {
     if stall <= n {
-        let head = Head::fresh(n, stall);
-        return head.image;
+        Head::fresh(n, stall).write(slot);
+        return;
     }
-    [0u8; LONGEST]
+    clear_from(slot, 0);
 }
 
 // Every slot of a parlour of n heads just opened.
@@ -65,7 +66,7 @@ fn open_slots(state: &mut [u8], n: u8)
     let mut at = 1usize;
     let mut r = 0u8;
     while r < LARGEST {
-        write_image(state, at, LONGEST, fresh_slot(n, r + 1));
+        open_slot(&mut state[at..at + LONGEST], n, r + 1);
         at += LONGEST;
         r += 1;
     }

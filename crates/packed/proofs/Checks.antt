@@ -1,10 +1,9 @@
 -- The check of a packed image is that of its unpacked form, and that of what is handed to the plain calls.
-use Prim.Native.Nat.{ℕ, _*_, _≤_, _<_}
+use Prim.Native.Nat.{ℕ, _≤_, _<_}
 use mathlib.Core.Path.{_≡_, refl, sym, ap, subst, _∙_}
 use mathlib.Core.Bool.{Bool, true, false, _||_, not, cond, or-true}
 use mathlib.Core.List.{List, [], _∷_}
 use native.Mathlib.Omega.{arith}
-use native.Mathlib.Nat.{mul-le-mul}
 use native.Mathlib.Decide.{decLe, ℕ-discrete}
 use borrow.Author.Tests.{le-leb, lt-leb, eq-eqb, ne-eqb}
 use lib.Dec.{eqb, eqb·suc-zero}
@@ -15,13 +14,13 @@ use Rattle.image.specs.Check.{badCount, badLength, checkBody, checked, numberOf
 use Rattle.image.specs.declared.Header.{Header}
 use Rattle.image.specs.declared.Checked.{Checked}
 use Rattle.image.specs.declared.Checked.the-variants.{Good, Refused}
-use Rattle.image.proofs.OrderEntry.{length-is, order-single}
+use Rattle.image.proofs.OrderEntry.{length-is}
 use Rattle.image.proofs.Stages.{length-range, refused-empty, refused-2}
 use Rattle.image.proofs.Accepted.{Accepted, accepted}
 use Rattle.packed.specs.Form.{largestPacked, isPackedCount, longestUnpacked, packedLength, packedImageLength, unpackedOf, unpacked}
 use Rattle.packed.specs.Check.{badPackedCount, badPackedLength, packedChecked, packableChecked}
 use Rattle.packed.specs.Bytes.{plainOf}
-use Rattle.packed.proofs.Sizes.{PackedSized, packed-length-is, packed-few, same-count, length-unpacked, count-of, stall-unpacked, unpacked-is, unpacked-none, packed-count, count-passes, packed-sized, sized-unpacked, unpacked-long}
+use Rattle.packed.proofs.Sizes.{PackedSized, packed-length-is, packed-few, plain-short, same-count, length-unpacked, count-of, stall-unpacked, unpacked-is, unpacked-none, packed-count, count-passes, packed-sized, sized-unpacked, unpacked-long}
 
 -- N over that of packed tables is 1
 
@@ -159,10 +158,8 @@ module _ (p : List ℕ) where
       go true b e f = rw (plain-empty e) (omega arith)
       go false true e f = rw (plain-count e f) (omega arith)
       go false false e f =
-          let n = getD p 0 0 in
           let z = packed-sized p .0 (e, f) in
-          rw (plain-unpacked e f, unpacked-is p (z .n-to))
-          (omega (arith, sized-unpacked z .long, mul-le-mul (z .n-to) (z .n-to), z .n-to, ap (λ w. n * w) (order-single n (z .n-to))))
+          rw (plain-unpacked e f, unpacked-is p (z .n-to)) (omega (arith, sized-unpacked z .long, plain-short (z .n-to)))
 
 -- of a good packed image
 pub record GoodPacked (p : List ℕ) (n own : ℕ) : Type 0 where

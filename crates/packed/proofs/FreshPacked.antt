@@ -2,27 +2,28 @@
 use Prim.Native.Nat.{ℕ, _≤_, _<_}
 use mathlib.Core.Path.{_≡_, sym, ap, ap₂, subst, _∙_}
 use mathlib.Core.Bool.{true, false, not}
-use mathlib.Core.List.{List}
+use mathlib.Core.List.{List, _++_}
 use native.Mathlib.Omega.{arith}
 use borrow.Author.Tests.{eq-eqb, ne-eqb, le-leb, lt-leb}
 use lib.Dec.{eqb}
-use lib.ListN.{length, take}
-use lib.Seq.{length-take-le}
+use lib.ListN.{length, take, drop, length-append}
+use lib.Seq.{length-take-le, take-at}
 use Rattle.image.specs.Layout.{isCount, lengthOf}
 use Rattle.image.specs.Encode.{nothing}
-use Rattle.image.specs.Fresh.{freshImage, freshTable}
+use Rattle.image.specs.Fresh.{freshImage, freshIn}
 use Rattle.image.specs.Frame.{Sized}
 use Rattle.image.specs.Check.{badStall}
+use Rattle.image.specs.declared.Head.{Head}
 use Rattle.image.proofs.OrderEntry.{length-is}
-use Rattle.image.proofs.Stages.{in-range, length-range}
-use Rattle.image.proofs.FreshTable.{fresh-front, length-table}
+use Rattle.image.proofs.Stages.{in-range}
+use Rattle.image.proofs.FreshTable.{length-fresh, fresh-alone}
 use Rattle.image.proofs.Made.{nothing-made}
 use Rattle.head.specs.Calls.{Outcome, refused, accepted, freshCall}
 use Rattle.head.proofs.Freshness.{into-zero, into-refused, into-same}
-use Rattle.packed.specs.Form.{largestPacked, isPackedCount, packedLength, packedImageLength, packedImage, packed, unpacked}
+use Rattle.packed.specs.Form.{largestPacked, isPackedCount, longestUnpacked, packedLength, packedImageLength, packedImage, packed, unpacked}
 use Rattle.packed.specs.Calls.{packedFreshCall}
 use Rattle.packed.specs.Bytes.{packedOf}
-use Rattle.packed.proofs.Sizes.{packed-length-is, packed-few, same-count}
+use Rattle.packed.proofs.Sizes.{packed-length-is, packed-few, plain-short, same-count}
 use Rattle.packed.proofs.Forms.{unpacked-image, packed-encode}
 use Rattle.packed.proofs.SmallImages.{packed-image}
 
@@ -80,31 +81,41 @@ module _ (s : List ℕ) (n stall : ℕ) where
     unfolding packedFreshCall
     fresh-done b c out e = rw (count, eq-eqb (length s) (packedLength n) b, c, e)
 
-    -- what is packed: the fresh image at the front of a fresh table
-    module _ (m long : ℕ) (table : List ℕ) (m-is : m ≡ n) (long-is : long ≡ lengthOf m) (table-is : table ≡ freshTable n stall) where
+    -- what is packed: the fresh image, in the first bytes of a room
+    module _ (m long : ℕ) (room : List ℕ) (m-is : m ≡ n) (long-is : long ≡ lengthOf m) (room-is : length room ≡ longestUnpacked) where
       n-in : (2 ≤ n) × (n ≤ largestPacked)
       n-in = in-range 2 largestPacked n count
 
       long-n : long ≡ lengthOf n
       long-n = long-is ∙ ap lengthOf m-is
 
-      pub fresh-fits : long ≤ length table
-      fresh-fits = omega (arith, long-n, ap length table-is, length-table n stall (n-in .0) (packed-few (n-in .1)), length-range n (n-in .0) (packed-few (n-in .1)))
-
-      pub fresh-lent : long ≡ length (take long table)
-      fresh-lent = sym (length-take-le long table fresh-fits)
-
-      fresh-part : take long table ≡ freshImage n stall
-      fresh-part = ap₂ take long-n table-is ∙ fresh-front n stall (n-in .0) (packed-few (n-in .1))
-
-      pub fresh-sized : Sized (take long table) m
-      fresh-sized =
-          subst (Sized (take long table)) (sym m-is)
-          (record { n-from = n-in .0; n-to = packed-few (n-in .1); long = sym fresh-lent ∙ long-n ∙ length-is n (n-in .0) (packed-few (n-in .1)) })
+      pub fresh-fits : long ≤ length room
+      fresh-fits = omega (arith, room-is, long-n, length-is n (n-in .0) (packed-few (n-in .1)), plain-short (n-in .1))
 
       pub fresh-long : length s ≡ packedLength m → length s ≡ packedImageLength m
       fresh-long e = e ∙ rw m-is (packed-length-is n (n-in .0) (n-in .1))
 
-      pub fresh-packed : packedOf m (take long table) ≡ packedImage n stall nothing
-      unfolding freshImage
-      fresh-packed = ap₂ packedOf m-is fresh-part ∙ packed-encode n stall nothing (n-in .1) (nothing-made n stall)
+      module _ (head : Head) (out : List ℕ) (head-is : head ≡ record { n = n; stall = stall }) (out-is : out ≡ freshIn (length (take long room)) (head .n) (head .stall)) where
+        out-fresh : out ≡ freshImage n stall
+        out-fresh =
+            out-is
+            ∙ ap₂ (λ k h. freshIn k (h .n) (h .stall)) (length-take-le long room fresh-fits ∙ long-n) head-is
+            ∙ fresh-alone n stall (n-in .0) (packed-few (n-in .1))
+
+        out-long : length out ≡ long
+        out-long = ap length out-fresh ∙ length-fresh n stall (n-in .0) (packed-few (n-in .1)) ∙ sym long-n
+
+        pub fresh-fits-back : long ≤ length (out ++ drop long room)
+        fresh-fits-back = omega (arith, length-append out (drop long room), out-long)
+
+        back-is : take long (out ++ drop long room) ≡ out
+        back-is = take-at out (drop long room) long out-long
+
+        pub fresh-sized : Sized (take long (out ++ drop long room)) m
+        fresh-sized =
+            subst (Sized (take long (out ++ drop long room))) (sym m-is)
+            (record { n-from = n-in .0; n-to = packed-few (n-in .1); long = ap length back-is ∙ out-long ∙ long-n ∙ length-is n (n-in .0) (packed-few (n-in .1)) })
+
+        pub fresh-packed : packedOf m (take long (out ++ drop long room)) ≡ packedImage n stall nothing
+        unfolding freshImage
+        fresh-packed = ap₂ packedOf m-is (back-is ∙ out-fresh) ∙ packed-encode n stall nothing (n-in .1) (nothing-made n stall)

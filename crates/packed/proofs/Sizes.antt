@@ -5,6 +5,7 @@ use mathlib.Core.Logic.{_↔_, Iff·rfl}
 use mathlib.Core.Bool.{false}
 use mathlib.Core.List.{List, [], _∷_}
 use native.Mathlib.Omega.{arith}
+use native.Mathlib.Nat.{mul-le-mul}
 use native.Mathlib.Decide.{decLe}
 use borrow.Author.Tests.{le-leb, lt-leb}
 use lib.ListN.{length, getD, take, drop, length-take, length-drop}
@@ -15,7 +16,7 @@ use Rattle.image.proofs.OrderEntry.{order-wide, order-single}
 use Rattle.image.proofs.Encoding.{name-wide}
 use Rattle.image.proofs.Passing.{passing}
 use Rattle.image.proofs.Accepted.{Accepted}
-use Rattle.packed.specs.Form.{largestPacked, isPackedCount, packedLength, packedYieldsPlace, packedImageLength, packedPlace, nameOf, unpackedRow, unpackedOf, unpacked}
+use Rattle.packed.specs.Form.{largestPacked, isPackedCount, longestUnpacked, packedLength, packedYieldsPlace, packedImageLength, packedPlace, nameOf, unpackedRow, unpackedOf, unpacked}
 use Rattle.packed.specs.Check.{badPackedCount, badPackedLength}
 use Rattle.packed.proofs.Rows.{length-between}
 
@@ -25,6 +26,10 @@ packed-length-is n a b = rw (le-leb 2 n a, le-leb n largestPacked b) (omega (ari
 -- no parlour that is packed is larger than those that are not
 pub packed-few : {n : ℕ} → n ≤ largestPacked → n ≤ largest
 packed-few l = omega arith
+
+-- and none of them has a longer plain image
+pub plain-short : {n : ℕ} → n ≤ largestPacked → imageLength n ≤ longestUnpacked
+plain-short {n} l = omega (arith, mul-le-mul l l, ap (λ w. n * w) (order-single n l))
 
 pub same-count : {n : ℕ} → n ≤ largestPacked → isPackedCount n ≡ isCount n
 same-count {n} l = rw (le-leb n largestPacked l, le-leb n largest (packed-few l))

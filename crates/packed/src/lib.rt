@@ -126,9 +126,9 @@ pub extern "C" fn wilbryn_packed_fresh(packed: &mut [u8], n: u8, stall: u8) -> u
     if image::bytes::bad_stall(n, stall) {
         return 3;
     }
-    let table = Head::fresh(n, stall);
-    let bytes = table.image;
+    let mut bytes = room();
     let count = image::length_of(m);
+    Head::fresh(n, stall).write(&mut bytes[..count]);
     pack_image(&bytes[..count], packed, m);
     0
 }

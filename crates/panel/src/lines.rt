@@ -7,7 +7,7 @@ ghost use Rattle.image.specs.Layout.{largest};
 ghost use Rattle.panel.specs.Decimal.{digit, decimal};
 ghost use Rattle.panel.specs.Panel.{litres, line, lines, panelLength, PanelOutcome, shown};
 ghost use Rattle.panel.specs.Writing.{Room, Put, recordAt, recordsIn};
-use head::heard::clear_from;
+use image::bytes::clear_from;
 use image::bytes::wide;
 use image::yields::is_not_milked;
 use rank::Record;

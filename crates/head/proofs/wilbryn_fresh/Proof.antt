@@ -1,8 +1,10 @@
 -- A fresh table.
 use mathlib.Core.Path.{sym, ap, _∙_}
 use borrow.Author.Needs.{needs}
+use lib.ListN.{length}
 use Rattle.image.specs.Layout.{lengthOf}
-use Rattle.head.proofs.Freshness.{fresh-1, fresh-2, fresh-3, fresh-short, fresh-long, fresh-done}
+use Rattle.image.specs.Fresh.{freshIn}
+use Rattle.head.proofs.Freshness.{fresh-1, fresh-2, fresh-3, fresh-done}
 use Rattle.head.proofs.wilbryn_fresh.Statement.{statement}
 use Rattle.head.proofs.wilbryn_fresh.Tie as tie
 
@@ -18,6 +20,8 @@ wilbryn-fresh-spec =
     (λ c κs. tt)
     (λ c. fresh-3 _ _ _ (sym (c .before .before .before .before .before .before .bad-count .ensures) ∙ c .before .before .before .before .before .if1 .left) (c .before .before .if2 .left ∙ c .before .before .before .length-of .ensures ∙ ap lengthOf (c .before .before .before .before .wide .ensures .0)) (sym (c .before .bad-stall .ensures) ∙ c .if3 .taken))
     (λ c κs. tt)
-    (λ c κs. (fresh-short (c .before .before .before .before .before .before .before .before .before .before .before .args .image .now) (c .before .before .before .before .before .before .before .before .before .before .before .args .n) (c .before .before .before .before .before .before .before .before .before .before .before .args .stall) (sym (c .before .before .before .before .before .before .before .before .before .bad-count .ensures) ∙ c .before .before .before .before .before .before .before .before .if1 .left) (c .before .before .before .before .before .if2 .left ∙ c .before .before .before .before .before .before .length-of .ensures ∙ ap lengthOf (c .before .before .before .before .before .before .before .wide .ensures .0)), fresh-long (c .before .before .before .before .before .before .before .before .before .before .before .args .image .now) (c .before .before .before .before .before .before .before .before .before .before .before .args .n) (c .before .before .before .before .before .before .before .before .before .before .before .args .stall) _ (sym (c .before .before .before .before .before .before .before .before .before .bad-count .ensures) ∙ c .before .before .before .before .before .before .before .before .if1 .left) (c .before .before .fresh .ensures)))
+    (λ c κs. tt)
     (λ c. search needs)
-    (λ c. fresh-done _ _ _ _ _ (sym (c .before .before .before .before .before .before .before .before .before .before .before .before .bad-count .ensures) ∙ c .before .before .before .before .before .before .before .before .before .before .before .if1 .left) (c .before .before .before .before .before .before .before .before .if2 .left ∙ c .before .before .before .before .before .before .before .before .before .length-of .ensures ∙ ap lengthOf (c .before .before .before .before .before .before .before .before .before .before .wide .ensures .0)) (sym (c .before .before .before .before .before .before .before .bad-stall .ensures) ∙ c .before .before .before .before .before .before .if3 .left) (c .before .before .write-table .ensures) (c .before .before .before .before .before .fresh .ensures)))
+    (λ c.
+    let s = c .before .before .before .before .before .before .before .before .before .before .before .before .before .args .image .now in
+    fresh-done s _ _ _ (sym (c .before .before .before .before .before .before .before .before .before .before .before .bad-count .ensures) ∙ c .before .before .before .before .before .before .before .before .before .before .if1 .left) (c .before .before .before .before .before .before .before .if2 .left ∙ c .before .before .before .before .before .before .before .before .length-of .ensures ∙ ap lengthOf (c .before .before .before .before .before .before .before .before .before .wide .ensures .0)) (sym (c .before .before .before .before .before .before .bad-stall .ensures) ∙ c .before .before .before .before .before .if3 .left) (c .before .before .write .ensures ∙ ap (λ h. freshIn (length s) (h .n) (h .stall)) (c .before .before .before .before .fresh .ensures))))

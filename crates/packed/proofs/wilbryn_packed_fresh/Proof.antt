@@ -1,10 +1,51 @@
 -- A fresh packed table.
 use mathlib.Core.Path.{sym, ap, _∙_}
 use borrow.Author.Needs.{needs}
+use lib.Seq.{length-take-le}
 use Rattle.packed.specs.Form.{packedLength}
-use Rattle.packed.proofs.FreshPacked.{fresh-1, fresh-2, fresh-3, fresh-done, fresh-fits, fresh-lent, fresh-sized, fresh-long, fresh-packed}
+use Rattle.packed.proofs.FreshPacked.{fresh-1, fresh-2, fresh-3, fresh-done, fresh-fits, fresh-fits-back, fresh-sized, fresh-long, fresh-packed}
 use Rattle.packed.proofs.wilbryn_packed_fresh.Statement.{statement}
 use Rattle.packed.proofs.wilbryn_packed_fresh.Tie as tie
+
+lent : tie.Need-array-borrow-prefix-bytes
+lent c =
+    let start = c .before .before .before .before .before .before .before .before .before .before .before in
+    let t = start .args in
+    let count = sym (c .before .before .before .before .before .before .before .before .before .bad-packed-count .ensures) ∙ c .before .before .before .before .before .before .before .before .if1 .left in
+    let m = c .before .before .before .before .before .before .before .wide in
+    let long = c .before .length-of in
+    let room = c .before .before .room in
+    fresh-fits (t .packed .now) (t .n) (t .stall) count (m .result) (long .result) (room .result) (m .ensures .0) (long .ensures) (room .ensures)
+
+lent-again : tie.Need-array-share-prefix-bytes
+lent-again c =
+    let start = c .before .before .before .before .before .before .before .before .before .before .before .before .before .before in
+    let t = start .args in
+    let count = sym (c .before .before .before .before .before .before .before .before .before .before .before .before .bad-packed-count .ensures) ∙ c .before .before .before .before .before .before .before .before .before .before .before .if1 .left in
+    let m = c .before .before .before .before .before .before .before .before .before .before .wide in
+    let long = c .before .before .before .before .length-of in
+    let room = c .before .before .before .before .before .room in
+    fresh-fits-back (t .packed .now) (t .n) (t .stall) count (m .result) (long .result) (room .result) (m .ensures .0) (long .ensures) (room .ensures) (c .before .before .before .fresh .result) (c .before .write .last .1 .0) (c .before .before .before .fresh .ensures) (c .before .write .ensures)
+
+packable : tie.Need-pack-image-requires
+packable c κs =
+    let start = c .before .before .before .before .before .before .before .before .before .before .before .before .before .before .before .before in
+    let t = start .args in
+    let count = sym (c .before .before .before .before .before .before .before .before .before .before .before .before .before .before .bad-packed-count .ensures) ∙ c .before .before .before .before .before .before .before .before .before .before .before .before .before .if1 .left in
+    let m = c .before .before .before .before .before .before .before .before .before .before .before .before .wide in
+    let long = c .before .before .before .before .before .before .length-of in
+    let room = c .before .before .before .before .before .before .before .room in
+    (fresh-sized (t .packed .now) (t .n) (t .stall) count (m .result) (long .result) (room .result) (m .ensures .0) (long .ensures) (room .ensures) (c .before .before .before .before .before .fresh .result) (c .before .before .before .write .last .1 .0) (c .before .before .before .before .before .fresh .ensures) (c .before .before .before .write .ensures), fresh-long (t .packed .now) (t .n) (t .stall) count (m .result) (long .result) (room .result) (m .ensures .0) (long .ensures) (room .ensures) (c .before .before .before .before .before .before .before .before .before .before .if2 .left ∙ c .before .before .before .before .before .before .before .before .before .before .before .packed-length-of .ensures))
+
+returns : tie.Need-returns-4
+returns c =
+    let start = c .before .before .before .before .before .before .before .before .before .before .before .before .before .before .before .before .before .before .before in
+    let t = start .args in
+    let count = sym (c .before .before .before .before .before .before .before .before .before .before .before .before .before .before .before .before .before .bad-packed-count .ensures) ∙ c .before .before .before .before .before .before .before .before .before .before .before .before .before .before .before .before .if1 .left in
+    let m = c .before .before .before .before .before .before .before .before .before .before .before .before .before .before .before .wide in
+    let long = c .before .before .before .before .before .before .before .before .before .length-of in
+    let room = c .before .before .before .before .before .before .before .before .before .before .room in
+    fresh-done (t .packed .now) (t .n) (t .stall) count (c .before .before .before .before .before .before .before .before .before .before .before .before .before .if2 .left ∙ c .before .before .before .before .before .before .before .before .before .before .before .before .before .before .packed-length-of .ensures ∙ ap packedLength (m .ensures .0)) (sym (c .before .before .before .before .before .before .before .before .before .before .before .before .bad-stall .ensures) ∙ c .before .before .before .before .before .before .before .before .before .before .before .if3 .left) _ (c .before .before .pack-image .ensures ∙ fresh-packed (t .packed .now) (t .n) (t .stall) count (m .result) (long .result) (room .result) (m .ensures .0) (long .ensures) (room .ensures) (c .before .before .before .before .before .before .before .before .fresh .result) (c .before .before .before .before .before .before .write .last .1 .0) (c .before .before .before .before .before .before .before .before .fresh .ensures) (c .before .before .before .before .before .before .write .ensures))
 
 pub wilbryn-packed-fresh-spec : {M : Type 1} → statement M
 wilbryn-packed-fresh-spec =
@@ -19,8 +60,12 @@ wilbryn-packed-fresh-spec =
     (λ c. fresh-3 _ _ _ (sym (c .before .before .before .before .before .before .bad-packed-count .ensures) ∙ c .before .before .before .before .before .if1 .left) (c .before .before .if2 .left ∙ c .before .before .before .packed-length-of .ensures ∙ ap packedLength (c .before .before .before .before .wide .ensures .0)) (sym (c .before .bad-stall .ensures) ∙ c .if3 .taken))
     (λ c κs. search needs)
     (λ c κs. search needs)
-    (λ c. fresh-fits (c .before .before .before .before .before .before .before .before .before .before .before .args .packed .now) (c .before .before .before .before .before .before .before .before .before .before .before .args .n) (c .before .before .before .before .before .before .before .before .before .before .before .args .stall) (sym (c .before .before .before .before .before .before .before .before .before .bad-packed-count .ensures) ∙ c .before .before .before .before .before .before .before .before .if1 .left) (c .before .before .before .before .before .before .before .wide .result) (c .length-of .result) (c .before .before .fresh .result .image) (c .before .before .before .before .before .before .before .wide .ensures .0) (c .length-of .ensures) (c .before .before .fresh .ensures))
-    (λ c. fresh-lent (c .before .before .before .before .before .before .before .before .before .before .before .before .args .packed .now) (c .before .before .before .before .before .before .before .before .before .before .before .before .args .n) (c .before .before .before .before .before .before .before .before .before .before .before .before .args .stall) (sym (c .before .before .before .before .before .before .before .before .before .before .bad-packed-count .ensures) ∙ c .before .before .before .before .before .before .before .before .before .if1 .left) (c .before .before .before .before .before .before .before .before .wide .result) (c .before .length-of .result) (c .before .before .before .fresh .result .image) (c .before .before .before .before .before .before .before .before .wide .ensures .0) (c .before .length-of .ensures) (c .before .before .before .fresh .ensures))
-    (λ c κs. (fresh-sized (c .before .before .before .before .before .before .before .before .before .before .before .before .before .args .packed .now) (c .before .before .before .before .before .before .before .before .before .before .before .before .before .args .n) (c .before .before .before .before .before .before .before .before .before .before .before .before .before .args .stall) (sym (c .before .before .before .before .before .before .before .before .before .before .before .bad-packed-count .ensures) ∙ c .before .before .before .before .before .before .before .before .before .before .if1 .left) (c .before .before .before .before .before .before .before .before .before .wide .result) (c .before .before .length-of .result) (c .before .before .before .before .fresh .result .image) (c .before .before .before .before .before .before .before .before .before .wide .ensures .0) (c .before .before .length-of .ensures) (c .before .before .before .before .fresh .ensures), fresh-long (c .before .before .before .before .before .before .before .before .before .before .before .before .before .args .packed .now) (c .before .before .before .before .before .before .before .before .before .before .before .before .before .args .n) (c .before .before .before .before .before .before .before .before .before .before .before .before .before .args .stall) (sym (c .before .before .before .before .before .before .before .before .before .before .before .bad-packed-count .ensures) ∙ c .before .before .before .before .before .before .before .before .before .before .if1 .left) (c .before .before .before .before .before .before .before .before .before .wide .result) (c .before .before .length-of .result) (c .before .before .before .before .fresh .result .image) (c .before .before .before .before .before .before .before .before .before .wide .ensures .0) (c .before .before .length-of .ensures) (c .before .before .before .before .fresh .ensures) (c .before .before .before .before .before .before .before .if2 .left ∙ c .before .before .before .before .before .before .before .before .packed-length-of .ensures)))
+    (λ c κs. search needs)
+    lent
+    (λ c. sym (length-take-le _ _ (lent (c .before))))
+    (λ c κs. search needs)
+    lent-again
+    (λ c. sym (length-take-le _ _ (lent-again (c .before))))
+    packable
     (λ c. search needs)
-    (λ c. fresh-done _ _ _ (sym (c .before .before .before .before .before .before .before .before .before .before .before .before .before .before .bad-packed-count .ensures) ∙ c .before .before .before .before .before .before .before .before .before .before .before .before .before .if1 .left) (c .before .before .before .before .before .before .before .before .before .before .if2 .left ∙ c .before .before .before .before .before .before .before .before .before .before .before .packed-length-of .ensures ∙ ap packedLength (c .before .before .before .before .before .before .before .before .before .before .before .before .wide .ensures .0)) (sym (c .before .before .before .before .before .before .before .before .before .bad-stall .ensures) ∙ c .before .before .before .before .before .before .before .before .if3 .left) _ (c .before .before .pack-image .ensures ∙ fresh-packed (c .before .before .before .before .before .before .before .before .before .before .before .before .before .before .before .before .args .packed .now) (c .before .before .before .before .before .before .before .before .before .before .before .before .before .before .before .before .args .n) (c .before .before .before .before .before .before .before .before .before .before .before .before .before .before .before .before .args .stall) (sym (c .before .before .before .before .before .before .before .before .before .before .before .before .before .before .bad-packed-count .ensures) ∙ c .before .before .before .before .before .before .before .before .before .before .before .before .before .if1 .left) (c .before .before .before .before .before .before .before .before .before .before .before .before .wide .result) (c .before .before .before .before .before .length-of .result) (c .before .before .before .before .before .before .before .fresh .result .image) (c .before .before .before .before .before .before .before .before .before .before .before .before .wide .ensures .0) (c .before .before .before .before .before .length-of .ensures) (c .before .before .before .before .before .before .before .fresh .ensures))))
+    returns)

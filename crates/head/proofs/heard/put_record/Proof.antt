@@ -2,7 +2,7 @@
 use native.Mathlib.Omega.{arith}
 use borrow.Author.Needs.{needs}
 use lib.ListN.{length-set}
-use Rattle.head.proofs.Stores.{store-three}
+use Rattle.image.proofs.Overwrite.{store-three}
 use Rattle.head.proofs.heard.put_record.Statement.{statement}
 use Rattle.head.proofs.heard.put_record.Tie as tie
 

@@ -4,9 +4,9 @@ use mathlib.Core.Path.{_≡_, refl, ap, _∙_}
 use mathlib.Core.List.{List}
 use native.Mathlib.Omega.{arith}
 use lib.ListN.{length, set, length-set}
-use Rattle.head.proofs.Stores.{cleared, cleared-start, cleared-next, cleared-end}
-use Rattle.head.proofs.heard.clear_from.Statement.{statement}
-use Rattle.head.proofs.heard.clear_from.Tie as tie
+use Rattle.image.proofs.Zeros.{cleared, cleared-start, cleared-next, cleared-end}
+use Rattle.image.proofs.bytes.clear_from.Statement.{statement}
+use Rattle.image.proofs.bytes.clear_from.Tie as tie
 
 abbrev Inv-loop : tie.InvT-loop
 Inv-loop bytes₀ at i₀ bytes i = (at ≤ i) × (i - at ≤ length bytes₀ - at) × (bytes ≡ cleared bytes₀ at i) × (length bytes ≡ length bytes₀)
