@@ -1,4 +1,4 @@
--- A meeting in a line: the first's image is lent where it stands, the second's as a copy that is written back.
+-- A meeting in a line: the first's image is lent where it stands, the second's as a copy that is put back.
 use Prim.Native.Nat.{ℕ, _+_, _-_, _≤_, _<_}
 use mathlib.Core.Path.{_≡_, sym, ap, ap₂, subst, _∙_}
 use mathlib.Core.Bool.{true, false}
@@ -13,7 +13,7 @@ use Rattle.image.proofs.Zeros.{take-zeros}
 use Rattle.merge.specs.Call.{MeetingOutcome, meetingCall}
 use Rattle.line.specs.Parlour.{headsOf, slotPlace, imageOf, withImage}
 use Rattle.line.specs.Answer.{refusal, metBy, meetingOf, meeting}
-use Rattle.line.specs.Asked.{Opened, StallOf}
+use Rattle.line.specs.Asked.{Opened, StallOf, MetAt}
 use Rattle.line.proofs.Numbers.{meeting-code}
 use Rattle.line.proofs.Lent.{lent-long, array-long, front-long, the-front}
 use Rattle.line.proofs.Replying.{image-short, image-fits, the-image, part-long, put-image}
@@ -74,93 +74,56 @@ module _ {state out : List ℕ} {n p q m count a b : ℕ} (w : Stalls state out 
   pub zeros-long : m ≡ length (take {A = ℕ} m (replicate largest 0))
   zeros-long = lent-long m largest m-to
 
-  -- the copy of the second's image
-  module _ (image : List ℕ) (image-is : image ≡ take count (drop b state) ++ replicate (longest - count) 0) where
-    part : length (take count (drop b state)) ≡ count
-    part = length-take-le count (drop b state) (omega (arith, length-drop b state, fits-second))
+  pub copy-long : count ≡ length (take {A = ℕ} count (replicate longest 0))
+  copy-long = lent-long count longest short
 
-    pub image-long : length image ≡ longest
-    image-long =
-        ap length image-is
-        ∙ length-append (take count (drop b state)) (replicate (longest - count) 0)
-        ∙ omega (arith, part, length-replicate {A = ℕ} (longest - count) 0, short)
+  -- what the meeting leaves
+  module _ {r : ℕ} {x v : List ℕ} (w′ : MetAt state a b (length (take {A = ℕ} count (replicate longest 0))) (take m (replicate largest 0)) r x v)
+      (v-long : length v ≡ length (take {A = ℕ} m (replicate largest 0))) where
+    size : length (take {A = ℕ} count (replicate longest 0)) ≡ lengthOf (headsOf state)
+    size = sym copy-long ∙ long
 
-    pub second-long : count ≡ length (take count image)
-    second-long = sym (length-take-le count image (omega (arith, image-long, short)))
+    zeros : take {A = ℕ} m (replicate largest 0) ≡ replicate (headsOf state) 0
+    zeros = take-zeros m largest m-to ∙ ap (λ k. replicate k 0) (w .m-is ∙ w .n-is)
 
-    lent-second : take count image ≡ imageOf state q
+    image-of : (stall at : ℕ) → at ≡ slotPlace stall → take (length (take {A = ℕ} count (replicate longest 0))) (drop at state) ≡ imageOf state stall
     unfolding imageOf
-    lent-second =
-        ap (take count) image-is
-        ∙ take-at (take count (drop b state)) (replicate (longest - count) 0) count part
-        ∙ ap₂ (λ k at. take k (drop at state)) long (w .b-is)
+    image-of stall at e = ap₂ (λ k i. take k (drop i state)) size e
 
-    -- what the call leaves
-    module _ {r : ℕ} {f s v : List ℕ}
-        (met : _≡_ {A = MeetingOutcome} (record { answer = r; first = f; second = s; verdicts = v })
-        (meetingCall (take (a + count - a) (drop a state)) (take count image) (take m (replicate largest 0))))
-        (f-long : length f ≡ length (take (a + count - a) (drop a state))) (s-long : length s ≡ length (take count image))
-        (v-long : length v ≡ length (take {A = ℕ} m (replicate largest 0))) where
-      zeros : take {A = ℕ} m (replicate largest 0) ≡ replicate (headsOf state) 0
-      zeros = take-zeros m largest m-to ∙ ap (λ k. replicate k 0) (w .m-is ∙ w .n-is)
+    the-call : _≡_ {A = MeetingOutcome} (record { answer = r; first = w′ .first; second = w′ .second; verdicts = v })
+        (meetingCall (imageOf state p) (imageOf state q) (replicate (headsOf state) 0))
+    the-call = w′ .met ∙ ap₂ (λ y z. meetingCall y z (take m (replicate largest 0))) (image-of p a (w .a-is)) (image-of q b (w .b-is)) ∙ ap (meetingCall (imageOf state p) (imageOf state q)) zeros
 
-      the-call : _≡_ {A = MeetingOutcome} (record { answer = r; first = f; second = s; verdicts = v })
-          (meetingCall (imageOf state p) (imageOf state q) (replicate (headsOf state) 0))
-      the-call =
-          met
-          ∙ ap₂ (λ x y. meetingCall x y (take m (replicate largest 0))) (the-image state out p a count (w .opened) first-good (w .a-is) long) lent-second
-          ∙ ap (meetingCall (imageOf state p) (imageOf state q)) zeros
+    put-at : (s image : List ℕ) (stall at : ℕ) → at ≡ slotPlace stall → length image ≡ length (take {A = ℕ} count (replicate longest 0))
+        → take at s ++ image ++ drop (at + length (take {A = ℕ} count (replicate longest 0))) s ≡ withImage s stall image
+    unfolding withImage
+    put-at s image stall at e f = ap₂ (λ i j. take i s ++ image ++ drop j s) e (ap₂ _+_ e (sym f))
 
-      first-long : length f ≡ count
-      first-long = f-long ∙ part-long state out p a count (w .opened) first-good (w .a-is) long
+    after-both : x ≡ withImage (withImage state p (w′ .first)) q (w′ .second)
+    after-both =
+        w′ .put-back
+        ∙ ap (λ y. take b y ++ w′ .second ++ drop (b + length (take {A = ℕ} count (replicate longest 0))) y) (put-at state (w′ .first) p a (w .a-is) (w′ .first-long))
+        ∙ put-at (withImage state p (w′ .first)) (w′ .second) q b (w .b-is) (w′ .second-long)
 
-      after-first : take a state ++ (f ++ drop (a + count - a) (drop a state)) ≡ withImage state p f
-      after-first = put-image state out p a count (w .opened) first-good (w .a-is) long f first-long
+    -- the verdicts stand at the front of their array
+    pub verdicts-long : length (v ++ drop m (replicate largest 0)) ≡ largest
+    verdicts-long = array-long m largest m-to v v-long
 
-      length-after : length (take a state ++ (f ++ drop (a + count - a) (drop a state))) ≡ length state
-      length-after =
-          length-append (take a state) (f ++ drop (a + count - a) (drop a state))
-          ∙ omega (arith, length-take-le a state (omega (arith, fits-first)), length-append f (drop (a + count - a) (drop a state)), length-drop (a + count - a) (drop a state), length-drop a state, first-long, fits-first)
+    pub told-long : m ≡ length (take m (v ++ drop m (replicate largest 0)))
+    told-long = front-long m largest m-to v v-long
 
-      pub may-write : (count ≤ longest) × (b + count ≤ length (take a state ++ (f ++ drop (a + count - a) (drop a state)))) × (length (s ++ drop count image) ≡ longest)
-      may-write = (
-        short,
-        omega (arith, length-after, fits-second),
-        length-append s (drop count image) ∙ omega (arith, s-long, second-long, length-drop count image, image-long, short),
-      )
+    the-verdicts : take m (v ++ drop m (replicate largest 0)) ≡ v
+    the-verdicts = the-front m largest m-to v v-long
 
-      -- the verdicts stand at the front of their array
-      pub verdicts-long : length (v ++ drop m (replicate largest 0)) ≡ largest
-      verdicts-long = array-long m largest m-to v v-long
+    pub code : r ≤ 265
+    code = meeting-code _ _ _ (w′ .met)
 
-      pub told-long : m ≡ length (take m (v ++ drop m (replicate largest 0)))
-      told-long = front-long m largest m-to v v-long
+    pub met-refused : 256 ≤ r → meetingOf state p q ≡ record { bytes = (r - 256) ∷ []; state = x }
+    unfolding meetingOf
+    met-refused l = ap (metBy state p q) (sym the-call) ∙ rw (le-ltb r 256 l) (ap (λ z. record { bytes = (r - 256) ∷ []; state = z }) (sym after-both))
 
-      pub the-verdicts : take m (v ++ drop m (replicate largest 0)) ≡ v
-      the-verdicts = the-front m largest m-to v v-long
-
-      pub code : r ≤ 265
-      code = meeting-code (take (a + count - a) (drop a state)) (take count image) (take m (replicate largest 0)) met
-
-      module _ (x : List ℕ)
-          (x-is : x
-          ≡ take b (take a state ++ (f ++ drop (a + count - a) (drop a state))) ++ take count (s ++ drop count image)
-          ++ drop (b + count) (take a state ++ (f ++ drop (a + count - a) (drop a state)))) where
-        after-both : x ≡ withImage (withImage state p f) q s
-        unfolding withImage
-        after-both =
-            let e : b + count ≡ slotPlace q + length s = omega (arith, w .b-is, s-long, second-long) in
-            x-is
-            ∙ ap (λ y. take b y ++ take count (s ++ drop count image) ++ drop (b + count) y) after-first
-            ∙ ap (λ z. take b (withImage state p f) ++ z ++ drop (b + count) (withImage state p f)) (take-at s (drop count image) count (s-long ∙ sym second-long))
-            ∙ ap₂ (λ i j. take i (withImage state p f) ++ s ++ drop j (withImage state p f)) (w .b-is) e
-
-        pub met-refused : 256 ≤ r → meetingOf state p q ≡ record { bytes = (r - 256) ∷ []; state = x }
-        unfolding meetingOf
-        met-refused l = ap (metBy state p q) (sym the-call) ∙ rw (le-ltb r 256 l) (ap (λ z. record { bytes = (r - 256) ∷ []; state = z }) (sym after-both))
-
-        pub met-done : r < 256 → meetingOf state p q ≡ record { bytes = 0 ∷ r ∷ take m (v ++ drop m (replicate largest 0)); state = x }
-        unfolding meetingOf
-        met-done l =
-            ap (metBy state p q) (sym the-call)
-            ∙ rw (lt-ltb r 256 l) (ap₂ (λ y z. record { bytes = 0 ∷ r ∷ y; state = z }) (sym the-verdicts) (sym after-both))
+    pub met-done : r < 256 → meetingOf state p q ≡ record { bytes = 0 ∷ r ∷ take m (v ++ drop m (replicate largest 0)); state = x }
+    unfolding meetingOf
+    met-done l =
+        ap (metBy state p q) (sym the-call)
+        ∙ rw (lt-ltb r 256 l) (ap₂ (λ y z. record { bytes = 0 ∷ r ∷ y; state = z }) (sym the-verdicts) (sym after-both))

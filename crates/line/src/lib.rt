@@ -10,10 +10,9 @@ ghost use Rattle.line.specs.Asked.{Ready, Opened, StallOf};
 use crate::digits::put_byte;
 use crate::digits::put_bytes;
 use crate::frame::Frame;
-use crate::parlour::image_at;
+use crate::parlour::meet_at;
 use crate::parlour::open_parlour;
 use crate::parlour::place_of;
-use crate::parlour::write_image;
 use image::LONGEST;
 use image::STALLS;
 use image::bytes::bad_stall;
@@ -91,7 +90,7 @@ fn milk(state: &mut [u8], stall: u8, given: u16, out: &mut [u8]) -> usize
     reply_byte(out, number as u8)
 }
 
-// A meeting of the heads at two stalls. The second's image is lent as a copy.
+// A meeting of the heads at two stalls.
 fn meet_stalls(state: &mut [u8], n: u8, p: u8, q: u8, out: &mut [u8]) -> usize
     requires { ⌜ Opened (now state) (now out) × (n ≡ headsOf (now state)) × StallOf n p × StallOf n q ⌝ }
     ensures { λ r.
@@ -101,14 +100,9 @@ fn meet_stalls(state: &mut [u8], n: u8, p: u8, q: u8, out: &mut [u8]) -> usize
     let count = length_of(m);
     let a = place_of(p);
     let b = place_of(q);
-    let mut second = image_at(state, b, count);
+    let mut second = [0u8; LONGEST];
     let mut verdicts = [0u8; STALLS];
-    let label = head::wilbryn_meeting(
-        &mut state[a..a + count],
-        &mut second[..count],
-        &mut verdicts[..m],
-    );
-    write_image(state, b, count, second);
+    let label = meet_at(state, a, b, &mut second[..count], &mut verdicts[..m]);
     if 256 <= label {
         return reply_byte(out, (label - 256) as u8);
     }

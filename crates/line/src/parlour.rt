@@ -1,11 +1,13 @@
-// The state between lines: N, then a slot for each stall.
+// The state between lines: N, then a slot for each stall; a parlour just opened, and a meeting of two of its heads.
 ghost use mathlib.Core.Path.{_≡_};
 ghost use mathlib.Core.List.{_++_};
-ghost use Prim.Native.Nat.{_+_, _-_, _≤_};
-ghost use lib.ListN.{length, take, drop, replicate};
+ghost use Prim.Native.Nat.{_+_, _≤_};
+ghost use lib.ListN.{length, take, drop};
+ghost use lib.Seq.{paste};
 ghost use Rattle.image.specs.Layout.{largest, longest};
 ghost use Rattle.image.specs.Stalls.{each};
 ghost use Rattle.line.specs.Parlour.{stateLength, slotPlace, freshSlot, freshState};
+ghost use Rattle.line.specs.Asked.{MetAt};
 use image::Head;
 use image::LARGEST;
 use image::LONGEST;
@@ -20,30 +22,35 @@ pub(crate) fn place_of(stall: u8) -> usize
     1 + (wide(stall) - 1) * LONGEST
 }
 
-// The bytes at a place, then zeros.
-pub(crate) fn image_at(state: &[u8], at: usize, count: usize) -> [u8; LONGEST]
-    requires { ⌜ (count ≤ longest) × (at + count ≤ length (now state)) ⌝ }
-    ensures { λ r. ⌜ r ≡ take count (drop at (now (state .entry))) ++ replicate (longest - count) 0 ⌝ }
+// What stands in a run from a place on, to a place of another.
+fn copy(to: &mut [u8], at: usize, from: &[u8], start: usize, count: usize)
+    requires { ⌜ (at + count ≤ length (now to)) × (start + count ≤ length (now from)) ⌝ }
+    ensures { λ r. ⌜ now (to .exit) ≡ paste (now (to .entry)) at (drop start (now (from .entry))) count ⌝ }
 {
-    let mut image = [0u8; LONGEST];
     let mut i = 0usize;
     while i < count {
-        image[i] = state[at + i];
+        to[at + i] = from[start + i];
         i += 1;
     }
-    image
 }
 
-// The first bytes of an image to a place.
-pub(crate) fn write_image(state: &mut [u8], at: usize, count: usize, image: [u8; LONGEST])
-    requires { ⌜ (count ≤ longest) × (at + count ≤ length (now state)) × (length image ≡ longest) ⌝ }
-    ensures { λ r. ⌜ now (state .exit) ≡ take at (now (state .entry)) ++ take count image ++ drop (at + count) (now (state .entry)) ⌝ }
+// The heads whose images start at two places meet. The second's is lent as a copy, in a run as long as an image.
+pub(crate) fn meet_at(
+    state: &mut [u8],
+    a: usize,
+    b: usize,
+    second: &mut [u8],
+    verdicts: &mut [u8],
+) -> u32
+    requires { ⌜ (a + length (now second) ≤ length (now state)) × (b + length (now second) ≤ length (now state)) ⌝ }
+    ensures { λ r.
+        ⌜ MetAt (now (state .entry)) a b (length (now (second .entry))) (now (verdicts .entry)) r (now (state .exit)) (now (verdicts .exit)) ⌝ }
 {
-    let mut i = 0usize;
-    while i < count {
-        state[at + i] = image[i];
-        i += 1;
-    }
+    let count = second.len();
+    copy(second, 0, state, b, count);
+    let answer = head::wilbryn_meeting(&mut state[a..a + count], second, verdicts);
+    copy(state, b, second, 0, count);
+    answer
 }
 
 // A slot, as that of a stall in a parlour of n heads just opened.
