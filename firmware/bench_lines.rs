@@ -1,5 +1,5 @@
-//! Times line programs on the same sessions, round by round in turn. Its arguments: a folder for
-//! the sessions, the plain program, and the proved one if it is there.
+//! Times two line programs on the same sessions, round by round in turn. Its arguments: a folder
+//! for the sessions, what the first program is called, both programs, and the sizes of parlours.
 
 #[allow(dead_code)]
 mod images;
@@ -74,10 +74,10 @@ fn times(programs: &[String], session: &str, pipe: bool, rounds: usize) -> Vec<V
     times
 }
 
-fn print_heads() {
-    println!("lines: parlours of 8 and of 16, {LINES} lines, medians of interleaved rounds");
-    println!("{:40}        lines a second      time, wilbryn / plain", "");
-    println!(" N session{:20}output to       plain    wilbryn    ratio     quartiles", "");
+fn print_heads(other: &str) {
+    println!("lines: sessions of {LINES}, medians of interleaved rounds");
+    println!("{:40}        lines a second      time, wilbryn / {other}", "");
+    println!(" N session{:20}output to  {other:>10}    wilbryn    ratio     quartiles", "");
 }
 
 fn print_row(n: usize, name: &str, to: &str, times: &[Vec<f64>]) {
@@ -85,8 +85,8 @@ fn print_row(n: usize, name: &str, to: &str, times: &[Vec<f64>]) {
     for times in times {
         print!("{:>11.0}", LINES as f64 / quantile(times, 0.5));
     }
-    if let [plain, proved] = times {
-        let ratios: Vec<f64> = proved.iter().zip(plain).map(|(b, a)| b / a).collect();
+    if let [other, proved] = times {
+        let ratios: Vec<f64> = proved.iter().zip(other).map(|(b, a)| b / a).collect();
         let [middle, low, high] = [0.5, 0.25, 0.75].map(|part| quantile(&ratios, part));
         print!("{middle:>9.2}{low:>8.2} to {high:>5.2}");
     }
@@ -103,14 +103,16 @@ fn expect_same(programs: &[String], session: &str) {
 }
 
 fn main() {
-    let mut arguments = std::env::args().skip(1);
-    let folder = arguments.next().expect("a folder");
-    let programs: Vec<String> = arguments.collect();
-    print_heads();
+    let arguments: Vec<String> = std::env::args().skip(1).collect();
+    let [folder, other, first, second, sizes @ ..] = &arguments[..] else {
+        panic!("a folder, a name, two programs and sizes");
+    };
+    let programs = [first.clone(), second.clone()];
+    print_heads(other);
     let mut random = Random(0x5eed_0012);
+    let sizes = sizes.iter().map(|size| size.parse().expect("a size"));
     // Milkings alone are soon done, so that there is time for more rounds.
-    let sessions =
-        [(8, MEETINGS, 75, 7), (8, MILKINGS, 0, 15), (16, MEETINGS, 75, 7), (16, MILKINGS, 0, 15)];
+    let sessions = sizes.flat_map(|n| [(n, MEETINGS, 75, 7), (n, MILKINGS, 0, 15)]);
     for (n, name, meetings, rounds) in sessions {
         let path = format!("{folder}/session-{n}-{meetings}");
         fs::write(&path, session(&mut random, n, meetings)).expect("a session is written");
