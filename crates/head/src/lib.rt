@@ -77,8 +77,7 @@ pub extern "C" fn wilbryn_heard(image: &[u8], records: &mut [u8]) -> u32
 pub extern "C" fn wilbryn_settled(image: &[u8], counts: &mut [u8]) -> u32
     ensures { λ r. ⌜ _≡_ {A = Settled} (record { answer = r; counts = now (counts .exit) }) (settledCall (now (image .entry)) (now (counts .entry))) ⌝ }
 {
-    // Lent anew, as for the heard list.
-    let c = image::check(&image[..]);
+    let c = image::check(image);
     let Checked::Good(h) = c else {
         return image::number_of(c);
     };
