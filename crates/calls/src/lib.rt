@@ -1,4 +1,6 @@
 // Every call of wilbryn.h in one archive. Each does what its crate's does, by the same contract.
+#![tactic(auto)]
+
 ghost use Rattle.std.specs.Prelude.{◌≡◌};
 ghost use Rattle.image.specs.Check.{checked, number_of};
 ghost use Rattle.merge.specs.Call.{MeetingOutcome, meeting_call};

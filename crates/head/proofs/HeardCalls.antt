@@ -4,6 +4,7 @@ use mathlib.Core.Path.{◌≡◌}
 use mathlib.Core.List.{List}
 use borrow.Author.Tests.{eq-eqb, ne_eqb}
 use lib.ListN.{length}
+use Rattle.image.proofs.Stages.{number_le}
 use Rattle.image.specs.Check.{checked}
 use Rattle.image.specs.declared.Header.{Header}
 use Rattle.image.specs.declared.Checked.TheVariants.{Good, Refused}
@@ -22,3 +23,6 @@ module _ (s buffer : List ℕ) where
   pub heard_accepted : {h : Header} → checked s ≡ Good h → length buffer ≡ 3 * h.n → heard_call s buffer ≡ heard_list s h.n h.stall
   unfolding heard_from
   heard_accepted {h} e i = rw (e, eq-eqb (length buffer) (3 * h.n) i)
+
+-- what an accepted image is, and what numbers refusals have
+pub ruleset accepts = (number_le)

@@ -5,6 +5,7 @@ use mathlib.Core.List.{List, [], ◌∷◌, ◌++◌, flat_map}
 use native.Mathlib.Omega.{arith}
 use lib.ListN.{length, get_or, take, drop}
 use lib.Seq.{length-take-le, take-suc}
+use Rattle.image.proofs.Overwrite.{store_three}
 use Rattle.image.proofs.Has.{flat_map_append, length_flat_map}
 use Rattle.image.proofs.Overwrite.{behind}
 use Rattle.rank.specs.declared.Record.{Record}
@@ -33,3 +34,5 @@ listed_next records d bytes i none l e =
     ap (λ b. take (3 * i) b ++ bytes_of (get_or records i none) ++ drop (3 * i + 3) b) e
     ∙ behind (flat_map bytes_of (take i records)) d (bytes_of (get_or records i none)) (3 * i) 3 long
     ∙ ap₂ (λ a j. a ++ drop j d) more at ∙ ap (listed records d) (sym k)
+
+pub ruleset stores = (store_three)

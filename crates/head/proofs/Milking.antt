@@ -43,3 +43,6 @@ module _ (s : List ℕ) (yield : ℕ) where
 -- a good image has its header
 pub good_long : (s : List ℕ) {h : Header} → checked s ≡ Good h → 4 < length s
 good_long s {h} e = let f = (accepted s h e).frame in omega (arith, f.long, f.n_from)
+
+-- how long an accepted image is
+pub ruleset lengths = (good_long)

@@ -7,7 +7,7 @@ use native.Mathlib.Omega.{arith}
 use lib.Dec.{eqb}
 use Rattle.image.specs.Layout.{yield_at, heard_at}
 use Rattle.rank.specs.declared.Record.{Record}
-use Rattle.rank.specs.Order.{Same, none, more, exchanged, through, ranked}
+use Rattle.rank.specs.Order.{Same, none, more, exchanged, through}
 use Rattle.rank.proofs.Ranking.{ranked_in_order, ranked_same, one_order}
 use Rattle.head.specs.Heard.{occurrences, Every, HeardList, chosen, record_of, heard_records}
 use Rattle.head.proofs.Occurrences.{occurrences_chosen, same_often}

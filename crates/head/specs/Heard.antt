@@ -23,7 +23,7 @@ unfoldable pub Every : (Record → Type 0) → List Record → Type 0
 Every P [] = Unit {0}
 Every P (r ∷ l) = P r × Every P l
 
--- "each heard stall and no other has one record, with its yield", and the records are in order. One list of records is so, and no other (Theory.antt: one-list).
+-- "each heard stall and no other has one record, with its yield", and the records are in order. One list of records is so, and no other (Theory.antt: one_list).
 pub record HeardList (s : List ℕ) (n own : ℕ) (l : List Record) : Type 0 where
   pub each_once : (r : ℕ) → occurrences r (map (λ x. x.stall) l) ≡ cond (leb 1 r && (leb r n && heard_at s n own r)) 1 0
   pub with_yields : Every (λ x. x.given ≡ yield_at s n x.stall) l

@@ -8,7 +8,7 @@ use Rattle.image.specs.Check.{checked}
 use Rattle.image.specs.declared.Checked.{Checked}
 use Rattle.image.specs.declared.Checked.TheVariants.{Good, Refused}
 
--- a byte for each stall r: the number of stalls s with order mark (r, s). A stall never heard has no marks in an accepted image (Theory.antt: settled-heard).
+-- a byte for each stall r: the number of stalls s with order mark (r, s). A stall never heard has no marks in an accepted image (Theory.antt: settled_heard).
 unfoldable pub settled_counts : List ℕ → ℕ → List ℕ
 settled_counts s n = each n (λ r. count_stalls n (mark_at s n r) ∷ [])
 

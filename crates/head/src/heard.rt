@@ -13,7 +13,7 @@ use image::{Entry, STALLS};
 use rank::Record;
 
 // The first records of an array.
-#[derive(Drop)]
+#[derive(Clone, Copy)]
 struct Gathered {
     records: [Record; STALLS],
     count: usize,
@@ -68,6 +68,7 @@ fn gather(image: &[u8], n: usize, yields: usize, row: [Entry; STALLS]) -> Gather
 }
 
 // The bytes of a record at a place.
+#[tactic(auto, using(crate::proofs::Listed::stores))]
 fn put_record(bytes: &mut [u8], at: usize, r: Record)
     requires { at + 3 ≤ length bytes.old }
     ensures { bytes.new ≡ take at bytes.old ++ bytes_of r ++ drop (at + 3) bytes.old }

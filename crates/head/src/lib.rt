@@ -1,4 +1,6 @@
 // The calls of a head, as C firmware links them.
+#![tactic(auto)]
+
 ghost use Rattle.std.specs.Prelude.{◌≡◌};
 ghost use Rattle.head.specs.Calls.{Outcome, fresh_call, milking_call};
 ghost use Rattle.head.specs.Heard.{HeardOutcome, heard_call};
@@ -20,6 +22,7 @@ pub extern "C" fn wilbryn_check(image: &[u8]) -> u32
 }
 
 // A fresh table of a parlour of n heads, for the head at a stall.
+#[tactic(auto, unfolding(crate::specs::Calls::fresh_call))]
 #[unsafe(no_mangle)]
 pub extern "C" fn wilbryn_fresh(image: &mut [u8], n: u8, stall: u8) -> u32
     ensures { ◌≡◌ {A = Outcome} (record { answer = result; image = image.new }) (fresh_call image.old n stall) }
@@ -38,6 +41,7 @@ pub extern "C" fn wilbryn_fresh(image: &mut [u8], n: u8, stall: u8) -> u32
 }
 
 // The current yield becomes a new one.
+#[tactic(auto, using(crate::proofs::Milking::lengths), unfolding(crate::specs::Calls::milking_call, crate::specs::Calls::milked))]
 #[unsafe(no_mangle)]
 pub extern "C" fn wilbryn_milking(image: &mut [u8], given: u16) -> u32
     ensures { ◌≡◌ {A = Outcome} (record { answer = result; image = image.new }) (milking_call image.old given) }
@@ -55,6 +59,7 @@ pub extern "C" fn wilbryn_milking(image: &mut [u8], given: u16) -> u32
 }
 
 // The heard stalls of a table with their yields, in ranking order.
+#[tactic(auto, using(crate::proofs::HeardCalls::accepts), unfolding(crate::specs::Heard::heard_from))]
 #[unsafe(no_mangle)]
 pub extern "C" fn wilbryn_heard(image: &[u8], records: &mut [u8]) -> u32
     ensures { ◌≡◌ {A = HeardOutcome} (record { answer = result; records = records.new }) (heard_call image.now records.old) }
@@ -73,6 +78,7 @@ pub extern "C" fn wilbryn_heard(image: &[u8], records: &mut [u8]) -> u32
 }
 
 // For each stall, how many stalls the head knows to have heard its latest of that stall.
+#[tactic(auto, using(crate::proofs::HeardCalls::accepts), unfolding(crate::specs::Settled::settled_from))]
 #[unsafe(no_mangle)]
 pub extern "C" fn wilbryn_settled(image: &[u8], counts: &mut [u8]) -> u32
     ensures { ◌≡◌ {A = Settled} (record { answer = result; counts = counts.new }) (settled_call image.now counts.old) }

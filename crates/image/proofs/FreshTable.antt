@@ -97,3 +97,5 @@ module _ (zeros begun : List ℕ) (n own m long at : ℕ)
       ∙ zeros_parted (front ++ replicate rows 0 ++ each n no_yield_bytes) (length zeros - 4 - (rows + n * 2)) (n * order_width n) rest (omega (arith, whole, asked.2, asked.3))
       ∙ ap (λ l. l ++ replicate rest 0) (sym (fresh_bytes n own))
       ∙ sym (fresh_in_lem n own asked.0 asked.1 (length zeros) (omega (arith, asked.2, asked.3)))
+
+pub ruleset written = (fresh_written)

@@ -31,4 +31,8 @@ pub mod Made
 pub mod MadeAccepted
 pub mod AcceptedMade
 pub mod OwnRow
+pub mod RowStart
+pub mod Lengths
+pub mod OrderMask
+pub mod PutOrder
 pub mod Theory

@@ -11,6 +11,7 @@ use Rattle.image.specs.Stalls.{some}
 use Rattle.image.specs.Lanes.{lanes, lane, pairs}
 use Rattle.image.specs.Check.{bad_name}
 use Rattle.image.specs.Columns.{Low, columns_from}
+use Rattle.image.proofs.NameBytes.{limit_bits}
 use Rattle.image.proofs.Search.{some_agree}
 use Rattle.image.proofs.Bits.{has_and, has_or, bit_test, has_top}
 use Rattle.image.proofs.Lanes.{sevens_lane, eighths_lane, lane_and, lane_or, lane_xor, lane_next, lane_lt, lane_add, sum_lt, lane_sub, sub_le, lane_test, pairs_lt, pair_lt, pair_first, pair_second, some_pairs, or_test, xor_none}
@@ -280,3 +281,5 @@ first_columns = refl
 pub columns_on : (c m : ℕ) → columns_from c + 0x0001000100010001 * m ≡ columns_from (c + m)
 unfolding pairs lanes
 columns_on c m = omega arith
+
+pub ruleset four_names = (over_in, unlike_fits, given_in, low_fits, four_test, limit_bits)

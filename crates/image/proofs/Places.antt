@@ -1,5 +1,5 @@
 -- Where things stand in an image, and that they lie within it.
-use Prim.Native.Nat.{ℕ, ◌+◌, ◌-◌, ◌≤◌}
+use Prim.Native.Nat.{ℕ, ◌+◌, ◌≤◌}
 use mathlib.Core.Path.{◌≡◌, ap, ◌∙◌}
 use native.Mathlib.Omega.{arith}
 use native.Mathlib.Nat.{mul-le-mul_right}
@@ -17,3 +17,5 @@ module _ {long n m at : ℕ} (is : long ≡ image_length n) (e : m ≡ n) where
 
   pub yields_from_lem : at ≡ yields_from long m → at ≡ yields_place n
   yields_from_lem i = i ∙ ap (yields_from long) e ∙ omega (arith, is)
+
+pub ruleset from_end = (orders_from_lem, yields_from_lem)

@@ -197,3 +197,8 @@ module _ (s : List ℕ) (bytes : (k : ℕ) → get_or s k 0 < 256) (n end : ℕ)
       (i ∙ (let p : end - n - n ≡ end - n * 2 = omega arith in ap (λ k. bad_from s k (fours (n - 4))) p))
       (j ∙ (let p : end - 8 ≡ end - n * 2 + (n - 4) * 2 = omega arith in ap (λ k. bad_from s k 4) p))
       ∙ windows_test s (end - n * 2) n (fours (n - 4)) (omega arith) (omega arith) (omega arith)
+
+-- for the test of four yields
+pub ruleset four_lanes = (over_fits, none_fits, four_test)
+
+pub ruleset parts = (last_found, both_found)

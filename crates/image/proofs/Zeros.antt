@@ -66,3 +66,8 @@ cleared_end d at i l e = ap₂ (λ k r. take at d ++ replicate k 0 ++ r) e (drop
 -- from the front on, all of it
 pub cleared_whole : (d z : List ℕ) → z ≡ take 0 d ++ replicate (length d - 0) 0 → z ≡ replicate (length d) 0
 cleared_whole d z e = e ∙ ap (λ k. replicate k 0) (let i : length d - 0 ≡ length d = omega arith in i)
+
+-- the steps of a loop that clears
+pub ruleset clearing = (cleared_start, cleared_next, cleared_end)
+
+pub ruleset cleared_all = (cleared_whole)

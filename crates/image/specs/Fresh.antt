@@ -1,4 +1,4 @@
--- A fresh image: that of the table of a head that was not milked and has heard nobody (Theory.antt: fresh-bytes has its bytes).
+-- A fresh image: that of the table of a head that was not milked and has heard nobody (Theory.antt: fresh_bytes has its bytes).
 use Rattle.std.specs.Prelude.{ℕ, ◌-◌, ◌&&◌, cond, List, ◌++◌, leb, replicate}
 use Rattle.image.specs.Layout.{is_count, length_of}
 use Rattle.image.specs.Encode.{nothing, encode}

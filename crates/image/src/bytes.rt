@@ -42,6 +42,7 @@ fn if_set(bit: usize, x: usize) -> usize
 }
 
 // Where the row of stall r starts in an image of n stalls, by the four bits of r - 1: with no product, and no loop that could be made one.
+#[tactic(auto, using(crate::proofs::RowStart::by_bits))]
 pub(crate) fn row_start(n: usize, r: usize) -> usize
     requires { (n ≤ largest) × (1 ≤ r) × (r ≤ largest) }
     ensures { result ≡ row_place n r }
@@ -92,6 +93,7 @@ pub fn bad_count(n: u8) -> bool
 }
 
 // Zeros from a place on, if there is anything.
+#[tactic(auto, using(crate::proofs::Zeros::clearing))]
 pub fn clear_from(bytes: &mut [u8], at: usize)
     ensures { bytes.new ≡ take at bytes.old ++ replicate (length bytes.old - at) 0 }
 {

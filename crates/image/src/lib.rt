@@ -1,4 +1,6 @@
 // One table as bytes: its forms in the code, its lengths, and its check.
+#![tactic(auto)]
+
 ghost use Rattle.std.specs.Prelude.{◌≡◌, ◌≤◌, cond, length, replicate};
 ghost use Rattle.image.specs.Layout.{label_limit, largest, length_of, name_from};
 ghost use Rattle.image.specs.Fresh.{fresh_in};
@@ -23,41 +25,41 @@ pub const ROW: usize = 2 * STALLS;
 pub const LONGEST: usize = 4 + 2 * STALLS * STALLS + 4 * STALLS;
 
 // The meeting with a partner that has a label.
-#[derive(Drop)]
+#[derive(Clone, Copy)]
 pub struct Meet {
     pub partner: u8,
     pub label: u8,
 }
 
 // A name is either none, or a partner with a label.
-#[derive(Drop)]
+#[derive(Clone, Copy)]
 pub enum Name {
     Never,
     With(Meet),
 }
 
 // A record of a row.
-#[derive(Drop)]
+#[derive(Clone, Copy)]
 pub struct Entry {
     pub name: Name,
 }
 
 // What an image begins with.
-#[derive(Drop)]
+#[derive(Clone, Copy)]
 pub struct Header {
     pub n: u8,
     pub stall: u8,
 }
 
 // The answer of a check: the header, or the first number that applies.
-#[derive(Drop)]
+#[derive(Clone, Copy)]
 pub enum Checked {
     Good(Header),
     Refused(u32),
 }
 
 // The table of a head that has heard nobody: N and its stall say all of it.
-#[derive(Drop)]
+#[derive(Clone, Copy)]
 pub struct Head {
     pub n: u8,
     pub stall: u8,
@@ -90,6 +92,7 @@ impl Head {
     // The yield of a head that was not milked, and of a stall never heard.
     pub const NO_YIELD: u16 = 0xffff;
 
+    #[tactic(auto, unfolding(crate::specs::Layout::label_limit))]
     pub fn label_limit(n: u8) -> usize
         ensures { result ≡ label_limit n }
     {
@@ -103,6 +106,7 @@ impl Head {
     }
 
     // Its image at the front of a run, then zeros; zeros alone where it has no room, or n is that of no parlour.
+    #[tactic(auto, using(crate::proofs::Zeros::cleared_all), unfolding(crate::specs::Fresh::fresh_in))]
     pub fn write(self, image: &mut [u8])
         ensures { image.new ≡ fresh_in (length image.old) self.n self.stall }
     {
@@ -120,6 +124,7 @@ impl Head {
 }
 
 // A fresh image, which is so long, over zeros.
+#[tactic(auto, using(crate::proofs::FreshTable::written))]
 fn put_fresh(image: &mut [u8], n: u8, stall: u8, long: usize)
     requires { (2 ≤ n) × (n ≤ largest) × (long ≡ length_of n) × (long ≤ length image.old) × (image.old ≡ replicate (length image.old) 0) }
     ensures { image.new ≡ fresh_in (length image.old) n stall }
@@ -138,6 +143,7 @@ fn widen_length(x: u16) -> usize
 }
 
 // The length of an image of n stalls, 0 where n is that of no parlour.
+#[tactic(auto, using(crate::proofs::Lengths::rule))]
 pub fn length_of(n: usize) -> usize
     ensures { result ≡ length_of n }
 {
@@ -149,6 +155,7 @@ pub fn length_of(n: usize) -> usize
 }
 
 // Two bytes as a name.
+#[tactic(auto, unfolding(crate::specs::Layout::name_from))]
 pub fn name_from(partner: u8, label: u8) -> Name
     ensures { result ≡ name_from partner label }
 {
@@ -160,6 +167,7 @@ pub fn name_from(partner: u8, label: u8) -> Name
 }
 
 // The check of a table: the first number that applies.
+#[tactic(auto, unfolding(crate::specs::Check::checked, crate::specs::Check::bad_count, crate::specs::Check::bad_length))]
 pub fn check(image: &[u8]) -> Checked
     ensures { result ≡ checked image.now }
 {
@@ -177,6 +185,7 @@ pub fn check(image: &[u8]) -> Checked
 }
 
 // The checks 3 to 6 of an image of the right length.
+#[tactic(auto, unfolding(crate::specs::Check::check_body))]
 fn check_body(image: &[u8], n: u8, own: u8) -> Checked
     requires { Sized image.now n }
     ensures { result ≡ check_body image.now n own }

@@ -22,6 +22,7 @@ pub fn widen(b: u8) -> u64
 }
 
 // The bit of a stall.
+#[tactic(auto, unfolding(crate::specs::Stalls::bit_of))]
 pub fn bit_of(s: u8) -> u64
     ensures { result ≡ bit_of s }
 {
@@ -43,6 +44,7 @@ pub(crate) fn has_all(set: u64, n: usize) -> bool
 }
 
 // Bits where the order entry of a stall is bad, by the stall's bit, that of the own stall, and the set of heard stalls: nothing is lost by the set, nor gained by the two bits.
+#[tactic(auto, using(crate::proofs::OrderMask::differs))]
 fn bad_order(order: u64, set: u64, one: u64, mine: u64) -> u64
     ensures { not (eqb result 0)
         ≡ cond (eqb (bit_and set one) 0) (not (eqb order 0))

@@ -23,6 +23,7 @@ const FOUR_MORE: u64 = 0x0004000400040004;
 const EIGHT_MORE: u64 = 0x0008000800080008;
 
 // What takes the partner bytes of four names to 128 and above where they are over n, and the label bytes where they are over the limit.
+#[tactic(auto, unfolding(crate::specs::Layout::label_limit, crate::specs::Lanes::lanes, crate::specs::Lanes::pairs))]
 fn limits_of(n: usize) -> u64
     requires { n ≤ largest }
     ensures { result ≡ pairs (λ j. 127 - n) (λ j. 127 - label_limit n) }
@@ -32,6 +33,7 @@ fn limits_of(n: usize) -> u64
 
 // Bits where some of four names in a word is bad by itself, a partner byte and a label byte each, with the columns of the names at the partner
 // bytes. A byte is over its limit, a partner is its own column, or a label has no partner: sums and differences of bytes below 128 carry into no other.
+#[tactic(auto, using(crate::proofs::NameLanes::four_names))]
 fn bad_four(w: u64, n: usize, columns: u64) -> u64
     requires { (n ≤ largest) × Low columns }
     ensures { not (eqb result 0)
@@ -90,7 +92,7 @@ fn two_at(image: &[u8], at: usize) -> u64
 }
 
 // What the own row says: bits where some row has another name of its stall, and the stalls that it has a name for.
-#[derive(Drop)]
+#[derive(Clone, Copy)]
 pub(crate) struct Own {
     pub bad: u64,
     pub set: u64,

@@ -8,6 +8,7 @@ use crate::bytes::less;
 use crate::marks::widen;
 
 // The bytes of an order entry in an image of n stalls.
+#[tactic(auto, unfolding(crate::specs::Layout::order_width))]
 pub fn order_width(n: usize) -> usize
     ensures { result ≡ order_width n }
 {
@@ -15,6 +16,7 @@ pub fn order_width(n: usize) -> usize
 }
 
 // Where the order entries of an image of n stalls start, counted from its end.
+#[tactic(auto, unfolding(crate::specs::Layout::order_width))]
 pub fn orders_place(length: usize, n: usize) -> usize
     ensures { result ≡ orders_from length n }
 {
@@ -35,6 +37,7 @@ fn byte_at(image: &[u8], at: usize) -> u64
 }
 
 // The order entry at a place as a number.
+#[tactic(auto, unfolding(crate::specs::Layout::order_width, crate::specs::Layout::order_from, crate::specs::Layout::number_at))]
 pub fn order_at(image: &[u8], n: usize, at: usize) -> u64
     ensures { (result ≡ order_from image.now n at) × (result < 2 ^ largest) }
 {
@@ -48,6 +51,7 @@ pub fn order_at(image: &[u8], n: usize, at: usize) -> u64
 }
 
 // An order entry written at a place, as far as it has room there and in its bytes.
+#[tactic(auto, using(crate::proofs::PutOrder::puts), unfolding(crate::specs::Layout::order_width))]
 pub fn put_order(image: &mut [u8], n: usize, at: usize, order: u16)
     ensures { image.new ≡ sets image.old at (order_bytes n (order % 2 ^ (8 * order_width n))) }
 {

@@ -35,6 +35,7 @@ fn row_at(image: &[u8], n: usize, at: usize) -> [Entry; STALLS]
 }
 
 // The own row of a table.
+#[tactic(auto, unfolding(crate::specs::Row::own_row, crate::specs::Row::tabulate))]
 pub fn own_row(image: &[u8], n: u8, own: u8) -> [Entry; STALLS]
     ensures { result ≡ own_row image.now n own }
 {

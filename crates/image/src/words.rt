@@ -18,6 +18,7 @@ pub(crate) const SIXTEENTHS: u64 = 0x8000800080008000;
 pub(crate) const FOUR_ONES: u64 = 0x0001000100010001;
 
 // The eight bytes from a place on, the first the lowest.
+#[tactic(auto, unfolding(crate::specs::Lanes::lanes))]
 pub(crate) fn eight(image: &[u8], at: usize) -> u64
     requires { at + 8 ≤ length image.now }
     ensures { result ≡ lanes 8 8 (λ i. get_or image.now (at + i) 0) }
@@ -33,6 +34,7 @@ pub(crate) fn eight(image: &[u8], at: usize) -> u64
 }
 
 // The four numbers of two bytes, high byte first, from a place on, the last the lowest.
+#[tactic(auto, unfolding(crate::specs::Lanes::lanes))]
 pub(crate) fn four_numbers(image: &[u8], at: usize) -> u64
     requires { at + 8 ≤ length image.now }
     ensures { result ≡ lanes 16 4 (λ i. word image.now (at + 6 - i * 2)) }
@@ -58,6 +60,7 @@ pub(crate) fn first_lanes(count: usize) -> u64
 }
 
 // A number in each of four lanes.
+#[tactic(auto, using(crate::proofs::Lanes::twice), unfolding(crate::specs::Lanes::lanes))]
 pub(crate) fn four_times(x: u64) -> u64
     requires { x < 65536 }
     ensures { result ≡ lanes 16 4 (λ i. x) }

@@ -13,6 +13,7 @@ use crate::orders::orders_place;
 use crate::words::{FIFTEENS, FOUR_ONES, SIXTEENTHS, first_lanes, four_numbers};
 
 // The number for not milked.
+#[tactic(auto, unfolding(crate::specs::Layout::no_yield))]
 pub fn is_not_milked(x: usize) -> bool
     ensures { result ≡ eqb x no_yield }
 {
@@ -20,6 +21,7 @@ pub fn is_not_milked(x: usize) -> bool
 }
 
 // A number that a yield in an image may be.
+#[tactic(auto, unfolding(crate::specs::Layout::is_yield))]
 fn is_yield(x: usize) -> bool
     ensures { result ≡ is_yield x }
 {
@@ -33,6 +35,7 @@ const OVER: u64 = (0x7fff - Head::YIELD_LIMIT as u64) * FOUR_ONES;
 const NONE: u64 = (0x10000 - Head::NO_YIELD as u64) * FOUR_ONES;
 
 // Of four numbers in the lanes of a word, some is none that a yield may be.
+#[tactic(auto, using(crate::proofs::YieldLanes::four_lanes))]
 fn bad_four(w: u64) -> bool
     ensures { result ≡ some 4 (λ j. not (is_yield (lane 16 w (j - 1)))) }
 {
@@ -59,6 +62,7 @@ fn bad_fours(image: &[u8], at: usize, count: usize) -> bool
 }
 
 // Some of n numbers that end at a place is none that a yield may be: of the last four, or of those before, in fours from the first on.
+#[tactic(auto, using(crate::proofs::YieldLanes::parts))]
 fn some_bad_yield(image: &[u8], n: usize, end: usize) -> bool
     requires { (2 ≤ n) × (n ≤ largest) × (n * 2 ≤ end) × (8 ≤ end) × (end ≤ length image.now) }
     ensures { result ≡ some n (λ s. not (is_yield (word image.now (end - n * 2 + (s - 1) * 2)))) }
@@ -71,6 +75,7 @@ fn some_bad_yield(image: &[u8], n: usize, end: usize) -> bool
 }
 
 // Check 4.
+#[tactic(auto, using(crate::proofs::Places::from_end), unfolding(crate::specs::Check::bad_yields))]
 pub(crate) fn bad_yields(image: &[u8], n: usize) -> bool
     requires { Sized image.now n }
     ensures { result ≡ bad_yields image.now n }

@@ -142,3 +142,9 @@ unfolding digits_to
 digits_to_end d l bytes at i a b e =
     let j : i ≡ length bytes = omega arith in
     e ∙ ap (λ k. take at d ++ digits_of (take k bytes) ++ drop (at + 2 * k) d) j ∙ ap (λ r. take at d ++ digits_of r ++ drop (at + 2 * length bytes) d) (take-length bytes)
+
+pub ruleset values = (low_digit, high_digit, value_low, value_high)
+
+pub ruleset each_one = (each_digit)
+
+pub ruleset digit_steps = (digits_stop, digits_step, digits_end)

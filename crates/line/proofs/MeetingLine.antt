@@ -5,8 +5,7 @@ use mathlib.Core.Bool.{true, false}
 use mathlib.Core.List.{List, [], ◌∷◌, ◌++◌}
 use native.Mathlib.Omega.{arith}
 use borrow.Author.Tests.{lt-ltb, le-ltb, eq-eqb, ne_eqb}
-use lib.ListN.{length, take, drop, replicate, length-append, length-drop, length-replicate}
-use lib.Seq.{length-take-le, take_at}
+use lib.ListN.{length, take, drop, replicate}
 use Rattle.image.specs.Layout.{largest, length_of, longest}
 use Rattle.image.specs.Check.{bad_stall}
 use Rattle.image.proofs.Zeros.{take_zeros}
@@ -16,7 +15,7 @@ use Rattle.line.specs.Answer.{refusal, met_by, meeting_of, meeting}
 use Rattle.line.specs.Asked.{Opened, StallOf, MetAt}
 use Rattle.line.proofs.Numbers.{meeting_code}
 use Rattle.line.proofs.Lent.{lent_long, array_long, front_long, the_front}
-use Rattle.line.proofs.Replying.{image_short, image_fits, the_image, part_long, put_image}
+use Rattle.line.proofs.Replying.{image_short, image_fits}
 
 -- a meeting, refused for its stalls and not
 module _ (state : List ℕ) (p q : ℕ) where

@@ -70,3 +70,5 @@ other_length (a ∷ b ∷ c ∷ []) p q r = odd_length (a ∷ b ∷ c ∷ []) re
 other_length (a ∷ b ∷ c ∷ d ∷ f ∷ []) p q r = odd_length (a ∷ b ∷ c ∷ d ∷ f ∷ []) refl
 other_length (a ∷ b ∷ c ∷ d ∷ f ∷ g ∷ h ∷ []) p q r = odd_length (a ∷ b ∷ c ∷ d ∷ f ∷ g ∷ h ∷ []) refl
 other_length (a ∷ b ∷ c ∷ d ∷ f ∷ g ∷ h ∷ o ∷ m ∷ []) p q r = odd_length (a ∷ b ∷ c ∷ d ∷ f ∷ g ∷ h ∷ o ∷ m ∷ []) refl
+
+pub ruleset parsings = (no_digits, frame_two, frame_three, frame_four, other_length)

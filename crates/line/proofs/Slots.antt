@@ -6,6 +6,7 @@ use native.Mathlib.Omega.{arith}
 use native.Mathlib.Decide.{dec_le}
 use borrow.Author.Tests.{le-leb, lt-leb}
 use lib.ListN.{length, take, drop, set, replicate, drop_of_length-le}
+use Rattle.image.proofs.Zeros.{cleared_whole}
 use Rattle.image.specs.Stalls.{each}
 use Rattle.image.specs.Layout.{largest, length_of, longest}
 use Rattle.image.specs.Fresh.{fresh_in}
@@ -41,3 +42,7 @@ state_opened (a ∷ s) x n e i = ap (λ l. set l 0 n) i
 pub slots_whole : (s x : List ℕ) (n : ℕ) → length s ≡ state_length → x ≡ take 1 s ++ each largest (fresh_slot n) ++ drop (1 + largest * longest) s
     → x ≡ take 1 s ++ each largest (fresh_slot n)
 slots_whole s x n e i = i ∙ ap (λ r. take 1 s ++ each largest (fresh_slot n) ++ r) (let l : length s ≤ 1 + largest * longest = omega arith in drop_of_length-le s l) ∙ append-nil _
+
+pub ruleset slots = (fresh_slot_lem, empty_slot, cleared_whole)
+
+pub ruleset opened = (state_opened)

@@ -2,6 +2,7 @@
 ghost use Rattle.std.specs.Prelude.{◌≡◌, true, ◌++◌, ◌+◌, ◌*◌, ◌≤◌, ◌<◌, length, get_or, take, drop};
 ghost use Rattle.line.specs.Digits.{is_digit, digit_value, all_digits, pair_value, digit_of, pair_of, digits_of};
 
+#[tactic(auto, unfolding(crate::specs::Digits::is_digit))]
 fn is_digit(c: u8) -> bool
     ensures { result ≡ is_digit c }
 {
@@ -9,6 +10,7 @@ fn is_digit(c: u8) -> bool
 }
 
 // Every byte of a line is a digit.
+#[tactic(auto, using(crate::proofs::Hexadecimal::digit_steps))]
 pub(crate) fn are_digits(line: &[u8]) -> bool
     ensures { result ≡ all_digits line.now }
 {
@@ -23,6 +25,7 @@ pub(crate) fn are_digits(line: &[u8]) -> bool
 }
 
 // What a digit stands for.
+#[tactic(auto, using(crate::proofs::Hexadecimal::values))]
 fn value(c: u8) -> u8
     requires { is_digit c ≡ true }
     ensures { (result ≡ digit_value c) × (result ≤ 15) }
@@ -34,6 +37,7 @@ fn value(c: u8) -> u8
 }
 
 // The byte of the two digits at a place.
+#[tactic(auto, using(crate::proofs::Hexadecimal::each_one), unfolding(crate::specs::Digits::pair_value))]
 pub(crate) fn byte_at(line: &[u8], at: usize) -> u8
     requires { (all_digits line.now ≡ true) × (at + 1 < length line.now) }
     ensures { result ≡ pair_value (get_or line.now at 0) (get_or line.now (at + 1) 0) }
@@ -42,6 +46,7 @@ pub(crate) fn byte_at(line: &[u8], at: usize) -> u8
 }
 
 // The digit of a value.
+#[tactic(auto, unfolding(crate::specs::Digits::digit_of))]
 fn digit_of(v: u8) -> u8
     requires { v < 16 }
     ensures { result ≡ digit_of v }
@@ -53,6 +58,7 @@ fn digit_of(v: u8) -> u8
 }
 
 // The two digits of a byte at a place.
+#[tactic(auto, using(image::proofs::Overwrite::store_two))]
 pub(crate) fn put_byte(out: &mut [u8], at: usize, byte: u8)
     requires { at + 2 ≤ length out.old }
     ensures { out.new ≡ take at out.old ++ pair_of byte ++ drop (at + 2) out.old }

@@ -6,7 +6,7 @@ ghost use Rattle.line.specs.Frame.{kind_of_two, kind_of_three, kind_of_four, fra
 use crate::digits::{are_digits, byte_at};
 
 // What a line asks for. A line that is no frame is bad.
-#[derive(Drop)]
+#[derive(Clone, Copy)]
 pub enum Frame {
     Open(u8),
     Milking(u8, u16),
@@ -18,6 +18,7 @@ pub enum Frame {
 }
 
 // The kinds of two bytes.
+#[tactic(auto, unfolding(crate::specs::Frame::kind_of_two))]
 fn of_two(kind: u8, x: u8) -> Frame
     ensures { result ≡ kind_of_two kind x }
 {
@@ -37,6 +38,7 @@ fn of_two(kind: u8, x: u8) -> Frame
 }
 
 // The kind of three bytes.
+#[tactic(auto, unfolding(crate::specs::Frame::kind_of_three))]
 fn of_three(kind: u8, x: u8, y: u8) -> Frame
     ensures { result ≡ kind_of_three kind x y }
 {
@@ -47,6 +49,7 @@ fn of_three(kind: u8, x: u8, y: u8) -> Frame
 }
 
 // The kind of four bytes: the yield has its high byte first.
+#[tactic(auto, unfolding(crate::specs::Frame::kind_of_four))]
 fn of_four(kind: u8, x: u8, high: u8, low: u8) -> Frame
     ensures { result ≡ kind_of_four kind x high low }
 {
@@ -57,6 +60,7 @@ fn of_four(kind: u8, x: u8, high: u8, low: u8) -> Frame
 }
 
 // The frame of a line of digits.
+#[tactic(auto, using(crate::proofs::Parsing::parsings))]
 fn parse_digits(line: &[u8]) -> Frame
     requires { all_digits line.now ≡ true }
     ensures { result ≡ frame_of line.now }
@@ -80,6 +84,7 @@ fn parse_digits(line: &[u8]) -> Frame
 }
 
 // The frame of a line. No frame has more than 8 digits.
+#[tactic(auto, using(crate::proofs::Parsing::parsings))]
 pub fn parse(line: &[u8]) -> Frame
     ensures { result ≡ frame_of line.now }
 {

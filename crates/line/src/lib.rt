@@ -1,4 +1,6 @@
 // One line of the line program: a frame in, its answer out, and the parlour between lines in a lent state.
+#![tactic(auto)]
+
 ghost use Rattle.std.specs.Prelude.{◌≡◌, true, false, [], ◌∷◌, ◌+◌, ◌*◌, ◌≤◌, length};
 ghost use Rattle.line.specs.Parlour.{heads_of};
 ghost use Rattle.line.specs.Answer.{opening, milking, meeting_of, meeting, showing, hearing, settling, reply_to, written, outcome, replied, answer_call};
@@ -20,6 +22,7 @@ pub const STATE: usize = 1 + STALLS * LONGEST;
 pub const ANSWER: usize = 2 + 2 * LONGEST;
 
 // An answer of one byte: a refusal's number, or 0.
+#[tactic(auto, using(crate::proofs::Replying::written_one))]
 fn reply_byte(out: &mut [u8], byte: u8) -> usize
     requires { 2 ≤ length out.old }
     ensures { (result ≡ 2) × (out.new ≡ written out.old (byte ∷ [])) }
@@ -52,6 +55,7 @@ fn reply_with(out: &mut [u8], byte: u8, more: &[u8]) -> usize
 }
 
 // Opens a parlour of n heads.
+#[tactic(auto, unfolding(crate::specs::Answer::opening))]
 fn open(state: &mut [u8], n: u8, out: &mut [u8]) -> usize
     requires { Ready state.old out.old }
     ensures { outcome result state.new out.new ≡ replied out.old (opening state.old n) }
@@ -97,6 +101,7 @@ fn meet_stalls(state: &mut [u8], n: u8, p: u8, q: u8, out: &mut [u8]) -> usize
 }
 
 // A meeting, or its refusal.
+#[tactic(auto, unfolding(crate::specs::Answer::meeting))]
 fn meet(state: &mut [u8], p: u8, q: u8, out: &mut [u8]) -> usize
     requires { Opened state.old out.old }
     ensures { outcome result state.new out.new ≡ replied out.old (meeting state.old p q) }
@@ -202,6 +207,7 @@ fn answer_shut(state: &mut [u8], frame: Frame, out: &mut [u8]) -> usize
 }
 
 // The answer to a line as digits at the start of out, and how many they are: 0 where the state has not STATE bytes or out fewer than ANSWER.
+#[tactic(auto, unfolding(crate::specs::Answer::answer_call))]
 pub fn answer(state: &mut [u8], line: &[u8], out: &mut [u8]) -> usize
     ensures { outcome result state.new out.new ≡ answer_call state.old line.now out.old }
 {

@@ -48,6 +48,7 @@ pub(crate) fn meet_at(
 }
 
 // A slot, as that of a stall in a parlour of n heads just opened.
+#[tactic(auto, using(crate::proofs::Slots::slots))]
 fn open_slot(slot: &mut [u8], n: u8, stall: u8)
     requires { length slot.old ≡ longest }
     ensures { slot.new ≡ fresh_slot n stall }
@@ -74,6 +75,7 @@ fn open_slots(state: &mut [u8], n: u8)
 }
 
 // A parlour of n heads just opened.
+#[tactic(auto, using(crate::proofs::Slots::opened))]
 pub(crate) fn open_parlour(state: &mut [u8], n: u8)
     requires { (length state.old ≡ state_length) × (2 ≤ n) × (n ≤ largest) }
     ensures { state.new ≡ fresh_state n }

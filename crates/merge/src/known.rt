@@ -114,7 +114,7 @@ fn view(mine: &[u8], a: usize, theirs: &[u8], b: usize, n: u8) -> View
 // The stalls with an order mark to one of a set.
 fn marked(image: &[u8], n: usize, set: u64) -> u64
     requires { Sized image.now n }
-    ensures* { λ r. ⌜ r ≡ bits n (λ r. not (eqb (bit_and (order_at image.now n r) set) 0)) ⌝ }
+    ensures { result ≡ bits n (λ r. not (eqb (bit_and (order_at image.now n r) set) 0)) }
 {
     let mut out = 0u64;
     let mut one = 1u64;

@@ -1,4 +1,6 @@
 // A meeting of two images: what is known, the verdicts, the label, and what both hold afterwards, built by value and then written.
+#![tactic(auto)]
+
 pub mod known;
 pub mod label;
 pub mod meeting;
@@ -10,7 +12,7 @@ pub mod write;
 pub mod yields;
 
 // Who meets: of n stalls, the first head's and the second's.
-#[derive(Drop)]
+#[derive(Clone, Copy)]
 pub struct Parties {
     pub n: u8,
     pub p: u8,
@@ -18,7 +20,7 @@ pub struct Parties {
 }
 
 // One column of an own row, seen against the other own row: the other names its meeting too, it has a name, and the other has the same one there.
-#[derive(Drop)]
+#[derive(Clone, Copy)]
 pub struct Seen {
     pub common: bool,
     pub heard: bool,
@@ -26,7 +28,7 @@ pub struct Seen {
 }
 
 // All columns of an own row, as sets of stalls.
-#[derive(Drop)]
+#[derive(Clone, Copy)]
 pub struct View {
     pub common: u64,
     pub heard: u64,
@@ -34,7 +36,7 @@ pub struct View {
 }
 
 // Stalls by verdict: 1, 2, and 9; and those that the head they come from has heard.
-#[derive(Drop)]
+#[derive(Clone, Copy)]
 pub struct Decided {
     pub one: u64,
     pub two: u64,
@@ -43,7 +45,7 @@ pub struct Decided {
 }
 
 // Stalls by who has them, as sets: the two that met; of the others those that the first has, that the second has, and that the second alone has; and all that are heard afterwards.
-#[derive(Drop)]
+#[derive(Clone, Copy)]
 pub struct Sets {
     pub pair: u64,
     pub first: u64,

@@ -58,8 +58,7 @@ fn verdict_byte(one: bool, two: bool) -> u8
 // The verdicts into a buffer.
 fn write_verdicts(buffer: &mut [u8], d: Decided)
     requires { length buffer.old ≤ largest }
-    ensures* { λ r.
-        ⌜ ByStall 0 (length buffer.old) (length buffer.old) (λ r. cond (has d.one r) 1 (cond (has d.two r) 2 0)) buffer.new ⌝ }
+    ensures { ByStall 0 (length buffer.old) (length buffer.old) (λ r. cond (has d.one r) 1 (cond (has d.two r) 2 0)) buffer.new }
 {
     let mut i = 0usize;
     while i < buffer.len() {
@@ -85,6 +84,7 @@ fn meet(first: &mut [u8], second: &mut [u8], x: Parties, buffer: &mut [u8]) -> u
 }
 
 // The label of a meeting, or 256 plus the number of its refusal.
+#[tactic(auto, using(crate::proofs::meeting::MeetingCalls::refusals), unfolding(crate::specs::Call::meeting_call, crate::specs::Call::met_checked, crate::specs::Call::met_good))]
 pub fn meeting(first: &mut [u8], second: &mut [u8], buffer: &mut [u8]) -> u32
     ensures { ◌≡◌ {A = MeetingOutcome}
         (record { answer = result; first = first.new; second = second.new; verdicts = buffer.new })

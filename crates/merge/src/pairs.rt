@@ -8,14 +8,14 @@ use crate::stalls::has_stall;
 use image::ROW;
 
 // Two bytes of an image: a name, or a yield.
-#[derive(Drop)]
+#[derive(Clone, Copy)]
 pub struct Pair {
     pub high: u8,
     pub low: u8,
 }
 
 // What one head brings to a row of pairs: its stall, the place in its image where such a row starts, and the pair of its own stall.
-#[derive(Drop)]
+#[derive(Clone, Copy)]
 pub struct Side {
     pub stall: usize,
     pub at: usize,

@@ -19,6 +19,7 @@ pub(crate) fn without(a: u64, b: u64) -> u64
 }
 
 // A set has the stall behind c others.
+#[tactic(auto, unfolding(image::specs::Stalls::has))]
 pub(crate) fn has_stall(set: u64, c: usize) -> bool
     requires { c < largest }
     ensures { result ≡ has set (suc c) }

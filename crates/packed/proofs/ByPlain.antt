@@ -97,3 +97,5 @@ module _ (s u buffer x y v : List ℕ) (r : ℕ)
         let first = z_is ∙ ap (λ n. packed_of n x) (sym count) ∙ packed_is first_good few a ∙ ap (λ o. packed o.first) same in
         let second = w_is ∙ ap (λ n. packed_of n y) (sym count) ∙ packed_is second_good few b ∙ ap (λ o. packed o.second) same in
         rw (after_taken s u buffer (meeting_call (unpacked s) (unpacked u) buffer) (subst (λ k. k < 256) number l), number, first, second, ap (λ o. o.verdicts) same)
+
+pub ruleset hand_overs = (heard_handed, settled_handed)

@@ -197,3 +197,5 @@ good_unpacked p e =
 -- it has its header
 pub good_long : (p : List ℕ) {h : Header} → packed_checked p ≡ Good h → 4 < length p
 good_long p e = let w = good_packed p e in omega (arith, w.long, w.unpacks.frame.n_from)
+
+pub ruleset plains = (checked_plain)

@@ -106,3 +106,5 @@ module _ (p : List ℕ) where
             is = i;
           }
     ]
+
+pub ruleset handings = (handed_empty, handed_none, handed_count, handed_whole, none_handed, count_handed)

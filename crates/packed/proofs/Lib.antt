@@ -21,3 +21,4 @@ mod Joined
 mod Handed
 mod ByPlain
 mod Packing
+pub mod PackedLengths

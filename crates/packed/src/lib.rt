@@ -1,4 +1,6 @@
 // The calls of a head on packed tables, as C firmware links them: one byte a name, 92 bytes for 8 stalls.
+#![tactic(auto)]
+
 ghost use Rattle.std.specs.Prelude.{◌≡◌, not};
 ghost use Rattle.image.specs.Check.{number_of};
 ghost use Rattle.merge.specs.Call.{MeetingOutcome};
@@ -39,6 +41,7 @@ pub fn bad_packed_count(n: u8) -> bool
 }
 
 // The length of a packed image of n stalls, 0 where n is not 2 to 8.
+#[tactic(auto, using(crate::proofs::PackedLengths::rule))]
 pub fn packed_length_of(n: usize) -> usize
     ensures { result ≡ packed_length n }
 {
@@ -59,6 +62,7 @@ pub fn check(packed: &[u8]) -> Checked
 }
 
 // The check of an image that is to be packed: the first number that applies.
+#[tactic(auto, unfolding(crate::specs::Check::packable_checked, crate::specs::Check::bad_packed_count))]
 fn packable(image: &[u8]) -> Checked
     ensures { result ≡ packable_checked image.now }
 {
@@ -72,6 +76,7 @@ fn packable(image: &[u8]) -> Checked
 }
 
 // An image packed into a buffer.
+#[tactic(auto, unfolding(crate::specs::Calls::into))]
 #[unsafe(no_mangle)]
 pub extern "C" fn wilbryn_pack(image: &[u8], packed: &mut [u8]) -> u32
     ensures { ◌≡◌ {A = Outcome} (record { answer = result; image = packed.new }) (pack_call image.now packed.old) }
@@ -89,6 +94,7 @@ pub extern "C" fn wilbryn_pack(image: &[u8], packed: &mut [u8]) -> u32
 }
 
 // A packed image unpacked into a buffer.
+#[tactic(auto, unfolding(crate::specs::Calls::into))]
 #[unsafe(no_mangle)]
 pub extern "C" fn wilbryn_unpack(packed: &[u8], image: &mut [u8]) -> u32
     ensures { ◌≡◌ {A = Outcome} (record { answer = result; image = image.new }) (unpack_call packed.now image.old) }
@@ -106,6 +112,7 @@ pub extern "C" fn wilbryn_unpack(packed: &[u8], image: &mut [u8]) -> u32
 }
 
 // A fresh packed table of a parlour of n heads, for the head at a stall.
+#[tactic(auto, unfolding(crate::specs::Calls::packed_fresh_call))]
 #[unsafe(no_mangle)]
 pub extern "C" fn wilbryn_packed_fresh(packed: &mut [u8], n: u8, stall: u8) -> u32
     ensures { ◌≡◌ {A = Outcome} (record { answer = result; image = packed.new }) (packed_fresh_call packed.old n stall) }
@@ -136,6 +143,7 @@ pub extern "C" fn wilbryn_packed_check(packed: &[u8]) -> u32
 }
 
 // The current yield becomes a new one.
+#[tactic(auto, unfolding(head::specs::Calls::milked))]
 #[unsafe(no_mangle)]
 pub extern "C" fn wilbryn_packed_milking(packed: &mut [u8], given: u16) -> u32
     ensures { ◌≡◌ {A = Outcome} (record { answer = result; image = packed.new }) (packed_milking_call packed.old given) }

@@ -9,6 +9,7 @@ use image::bytes::wide;
 use merge::pairs::Pair;
 
 // The byte of a name, of which only the lower eight bits count where two bytes are no name of an accepted image.
+#[tactic(auto, unfolding(crate::specs::Form::name_byte, image::specs::Layout::name_from))]
 pub(crate) fn one_byte(column: usize, partner: u8, label: u8) -> u8
     requires { column < largest }
     ensures { result ≡ name_byte (suc column) (name_from partner label) % 256 }
@@ -20,6 +21,7 @@ pub(crate) fn one_byte(column: usize, partner: u8, label: u8) -> u8
 }
 
 // The two bytes of a name.
+#[tactic(auto, unfolding(crate::specs::Form::name_byte, crate::specs::Form::name_of))]
 pub(crate) fn two_bytes(column: usize, byte: u8) -> Pair
     ensures { pair_bytes result ≡ name_bytes (name_of (suc column) byte) }
 {

@@ -23,6 +23,7 @@ pub(crate) fn room() -> [u8; UNPACKED]
 }
 
 // The check.
+#[tactic(auto, using(crate::proofs::Checks::plains))]
 pub(crate) fn check_into(packed: &[u8], image: &mut [u8]) -> Checked
     requires { length image.old ≡ length (plain_of packed.now) }
     ensures { result ≡ packed_checked packed.now }
@@ -32,6 +33,7 @@ pub(crate) fn check_into(packed: &[u8], image: &mut [u8]) -> Checked
 }
 
 // The heard list.
+#[tactic(auto, using(crate::proofs::ByPlain::hand_overs))]
 pub(crate) fn heard_into(packed: &[u8], image: &mut [u8], records: &mut [u8]) -> u32
     requires { length image.old ≡ length (plain_of packed.now) }
     ensures { ◌≡◌ {A = HeardOutcome} (record { answer = result; records = records.new }) (packed_heard_call packed.now records.old) }
@@ -41,6 +43,7 @@ pub(crate) fn heard_into(packed: &[u8], image: &mut [u8], records: &mut [u8]) ->
 }
 
 // The numbers.
+#[tactic(auto, using(crate::proofs::ByPlain::hand_overs))]
 pub(crate) fn settled_into(packed: &[u8], image: &mut [u8], counts: &mut [u8]) -> u32
     requires { length image.old ≡ length (plain_of packed.now) }
     ensures { ◌≡◌ {A = Settled} (record { answer = result; counts = counts.new }) (packed_settled_call packed.now counts.old) }

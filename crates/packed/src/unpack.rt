@@ -62,6 +62,7 @@ pub(crate) fn unpack_image(packed: &[u8], image: &mut [u8], n: usize)
 }
 
 // How many bytes are handed to the plain calls in the place of a packed image.
+#[tactic(auto, using(crate::proofs::Handed::handings))]
 pub(crate) fn plain_length(packed: &[u8]) -> usize
     ensures { (result ≡ length (plain_of packed.now)) × (result ≤ longest_unpacked) }
 {
@@ -79,6 +80,7 @@ pub(crate) fn plain_length(packed: &[u8]) -> usize
 }
 
 // The bytes that are handed to the plain calls in the place of a packed image.
+#[tactic(auto, using(crate::proofs::Handed::handings))]
 pub(crate) fn unpack_into(packed: &[u8], image: &mut [u8])
     requires { length image.old ≡ length (plain_of packed.now) }
     ensures { image.new ≡ plain_of packed.now }

@@ -1,4 +1,6 @@
 // The wall panel: the heard list of a table as lines of text. It calls what the tables offer and knows their contracts alone.
+#![tactic(auto)]
+
 ghost use Rattle.std.specs.Prelude.{◌≡◌};
 ghost use Rattle.panel.specs.Panel.{PanelOutcome, panel_call, packed_panel_call};
 

@@ -11,7 +11,6 @@ use Rattle.causality.specs.Clock.{latest, latest_in, in_past}
 use Rattle.causality.specs.Meetings.{Joins, Agree}
 use Rattle.causality.proofs.Clocks.{latest_apart, latest_self, latest_le, latest_in_le}
 use Rattle.causality.proofs.Agreement.{agree_less, latest_agree, latest_in_agree}
-use Rattle.labels.specs.Label.{label}
 use Rattle.labels.specs.Name.{partner_of}
 use Rattle.labels.proofs.Rule.{label_agree}
 use Rattle.image.specs.Encode.{Table, encode, table_of}

@@ -3,7 +3,6 @@ use Prim.Native.Nat.{ℕ, ◌≤◌}
 use mathlib.Core.Path.{◌≡◌, refl, sym, ap, subst, ◌∙◌}
 use mathlib.Core.List.{List, []}
 use native.Mathlib.Omega.{arith}
-use Rattle.causality.specs.Meetings as Meetings
 use Rattle.causality.specs.Meetings.{Joins}
 use Rattle.causality.specs.Clock.{latest, latest_in, in_past}
 use Rattle.causality.proofs.Clocks.{latest_le, latest_in_le}

@@ -1,7 +1,7 @@
 -- The calls themselves, by the readings of the contracts of `wilbryn_fresh`, `wilbryn_milking` and `wilbryn_meeting`: what whoever calls them learns.
 use Rattle.std.specs.Prelude.{ℕ, List}
 use contract.Lifetimes.{Lfts}
-use Rattle.std.specs.Borrow.{Bor}
+use Rattle.std.specs.Borrow.{Bor, MutBor}
 use Rattle.head.proofs.wilbryn_fresh.Reads as fresh
 use Rattle.head.proofs.wilbryn_milking.Reads as milking
 use Rattle.head.proofs.wilbryn_meeting.Reads as meeting
@@ -12,18 +12,22 @@ pub record Loan : Type 0 where
   pub name : ℕ
 
 -- the reference to it while it holds these bytes
-abbrev pub lent : Loan → List ℕ → Bor (List ℕ)
+abbrev pub lent : Loan → List ℕ → MutBor (List ℕ)
 lent loan bytes = record { ref_ptr = loan.place; ghost_name = loan.name; now = bytes }
+
+-- the reference to it where it is only read
+abbrev pub shared : Loan → List ℕ → Bor (List ℕ)
+shared loan bytes = record { ref_ptr = loan.place; now = bytes }
 
 -- what the three calls are lent: a run and two numbers, a run and a number, three runs
 abbrev pub FreshLent : Type 0
-FreshLent = Bor (List ℕ) × (ℕ × (ℕ × Unit {0}))
+FreshLent = MutBor (List ℕ) × (ℕ × (ℕ × Unit {0}))
 
 abbrev pub MilkingLent : Type 0
-MilkingLent = Bor (List ℕ) × (ℕ × Unit {0})
+MilkingLent = MutBor (List ℕ) × (ℕ × Unit {0})
 
 abbrev pub MeetingLent : Type 0
-MeetingLent = Bor (List ℕ) × (Bor (List ℕ) × (Bor (List ℕ) × Unit {0}))
+MeetingLent = MutBor (List ℕ) × (MutBor (List ℕ) × (MutBor (List ℕ) × Unit {0}))
 
 -- Each call by what its contract says of what it was lent, what it answered and what it left.
 

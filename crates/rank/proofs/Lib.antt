@@ -3,6 +3,4 @@ pub mod Before
 pub mod Ranking
 pub mod Exchange
 pub mod Insertion
-pub mod Walking
-pub mod Parted
 pub mod Theory

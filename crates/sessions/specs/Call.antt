@@ -1,7 +1,7 @@
 -- The calls themselves, by the readings of the contracts of `line::answer`, `stream::feed` and `stream::finish`: what whoever calls them learns.
 use Rattle.std.specs.Prelude.{ℕ, List}
 use contract.Lifetimes.{Lfts}
-use Rattle.parlour.specs.Call.{Loan, lent}
+use Rattle.parlour.specs.Call.{Loan, lent, shared}
 use Rattle.line.proofs.answer.Reads as answer
 use Rattle.stream.specs.declared.Fed.{Fed}
 use Rattle.stream.proofs.feed.Reads as feed
@@ -13,7 +13,7 @@ pub record LineCall (state line out : List ℕ) (count : ℕ) (state' out' : Lis
   pub one : Loan
   pub other : Loan
   pub third : Loan
-  pub learnt : answer.Learnt lifetimes (lent one state, (lent other line, (lent third out, tt))) count (lent one state', (lent other line, (lent third out', tt)))
+  pub learnt : answer.Learnt lifetimes (lent one state, (shared other line, (lent third out, tt))) count (lent one state', (shared other line, (lent third out', tt)))
 
 -- a call of stream::feed that is lent this state, the line so far, a block and a buffer
 pub record FeedCall (state text : List ℕ) (kept : ℕ) (block out : List ℕ) (fed : Fed) (state' text' out' : List ℕ) : Type 0 where
@@ -22,8 +22,8 @@ pub record FeedCall (state text : List ℕ) (kept : ℕ) (block out : List ℕ) 
   pub other : Loan
   pub third : Loan
   pub fourth : Loan
-  pub learnt : feed.Learnt lifetimes (lent one state, (lent other text, (kept, (lent third block, (lent fourth out, tt))))) fed
-      (lent one state', (lent other text', (kept, (lent third block, (lent fourth out', tt)))))
+  pub learnt : feed.Learnt lifetimes (lent one state, (lent other text, (kept, (shared third block, (lent fourth out, tt))))) fed
+      (lent one state', (lent other text', (kept, (shared third block, (lent fourth out', tt)))))
 
 -- a call of stream::finish that is lent this state, the line so far and a buffer
 pub record FinishCall (state text : List ℕ) (kept : ℕ) (out : List ℕ) (end : ℕ) (state' out' : List ℕ) : Type 0 where
@@ -31,5 +31,5 @@ pub record FinishCall (state text : List ℕ) (kept : ℕ) (out : List ℕ) (end
   pub one : Loan
   pub other : Loan
   pub third : Loan
-  pub learnt : finish.Learnt lifetimes (lent one state, (lent other text, (kept, (lent third out, tt)))) end
-      (lent one state', (lent other text, (kept, (lent third out', tt))))
+  pub learnt : finish.Learnt lifetimes (lent one state, (shared other text, (kept, (lent third out, tt)))) end
+      (lent one state', (shared other text, (kept, (lent third out', tt))))

@@ -38,7 +38,7 @@ pub record Theory : Type 0 where
   -- Demand 3, of lines: calls of line::answer, from the empty state on.
   pub claim : (done : List Answered) (state : List ℕ) → Session done state → Claim done state
   -- Request 2026-05, of lines: after lines that leave a parlour of N heads open, where `06` with stall p is answered with N for stall r, every head has the meeting that is p's
-  -- latest of r at that moment, or a newer one of r, then and after whatever lines follow. (The number itself may fall: settled/specs/Examples.antt: falls-again.)
+  -- latest of r at that moment, or a newer one of r, then and after whatever lines follow. (The number itself may fall: settled/specs/Examples.antt: falls_again.)
   -- What a session, an input in blocks or a run of the program leaves is a state with the images of its lines: `claim`, `blocks`, `runs`.
   pub settled : (ls : List (List ℕ)) (p r : ℕ) → is_count (heads ls) ≡ true
       → 1 ≤ r → r ≤ heads ls → get_or (answer_to (heads ls) (history_of ls) (Settled p)) r 0 ≡ heads ls

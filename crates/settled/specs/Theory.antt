@@ -27,7 +27,7 @@ pub record HistoryTheory (n : ℕ) (l : List Item) : Type 0 where
   pub places_stay : (later : List Item) → Agree (events l) (events (later ++ l)) (meetings l)
   -- A stall that is counted, q, has heard p's latest of r, or newer news of r, and whatever comes later has still heard it.
   pub counted_heard : (p q r : ℕ) → in_past (events l) (latest_after l p r) (latest_after l p q) ≡ true → (later : List Item) → latest_after l p r ≤ latest_after (later ++ l) q r
-  -- The number for one and the same meeting never falls. It may when p hears of a newer meeting of r (Examples.antt: falls-again).
+  -- The number for one and the same meeting never falls. It may when p hears of a newer meeting of r (Examples.antt: falls_again).
   pub same_no_fewer : (p r : ℕ) (later : List Item) → latest_after (later ++ l) p r ≡ latest_after l p r → count_after n l p r ≤ count_after n (later ++ l) p r
   -- So where the number is n, every head has heard it, and ever after, whatever the number is then.
   pub all_heard : (p r : ℕ) → count_after n l p r ≡ n → (later : List Item) (q : ℕ) → 1 ≤ q → q ≤ n → latest_after l p r ≤ latest_after (later ++ l) q r
@@ -64,7 +64,7 @@ pub record Theory (form : Form) (n : ℕ) : Type 0 where
       → (p : ℕ) → 1 ≤ p → p ≤ n → (buffer : List ℕ) (answer : ℕ) (counts : List ℕ) → form.settled (images p) buffer answer counts
       → Answered n (history n (items calls)) p buffer answer counts
   -- "Where the number is N, every head's own table truly has that meeting or a newer one for r, and this stays so through later meetings.": of head p's latest of r at that
-  -- moment, then and after every longer list of calls. (The number itself may fall, when p hears of a newer meeting of r: Examples.antt: falls-again.)
+  -- moment, then and after every longer list of calls. (The number itself may fall, when p hears of a newer meeting of r: Examples.antt: falls_again.)
   pub settled : (calls : List Called) (images : Images) → RunBy form.calls n calls images
       → (p r : ℕ) → 1 ≤ p → p ≤ n → 1 ≤ r → r ≤ n
       → (buffer counts : List ℕ) → form.settled (images p) buffer 0 counts → get_or counts (r - 1) 0 ≡ n

@@ -6,13 +6,13 @@ use crate::words::same;
 use crate::{calls, heard, history, random, settled, table, text};
 
 // What an item leaves besides the images. The buffer is the start of the verdicts.
-#[derive(Drop)]
+#[derive(Clone, Copy)]
 pub struct Outcome {
     pub answer: u32,
     pub verdicts: [u8; ROOM],
 }
 
-#[derive(Drop)]
+#[derive(Clone, Copy)]
 pub enum Difference {
     Nothing,
     Answer,

@@ -40,7 +40,7 @@ const CURRENT: u16 = 1;
 pub const NOT_MILKED: u16 = 0xffff;
 
 // A meeting as a name says it.
-#[derive(Drop)]
+#[derive(Clone, Copy)]
 pub struct Named {
     pub first: u16,
     pub second: u16,

@@ -4,6 +4,8 @@
 // that each item names, how many records of its heard list stood elsewhere than at their stall's number,
 // how many of its numbers of what is settled were n, and how many characters its panel had; then how many
 // lists differed.
+#![tactic(auto)]
+
 mod calls;
 mod compare;
 mod heard;
@@ -25,7 +27,7 @@ use sizes::{ITEMS, MOST};
 const LISTS: u16 = 120;
 
 // What the lists of one size came to.
-#[derive(Drop)]
+#[derive(Clone, Copy)]
 struct Tally {
     items: u64,
     milkings: u64,

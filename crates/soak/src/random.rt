@@ -2,7 +2,7 @@
 use crate::history;
 use crate::sizes::ROOM;
 
-#[derive(Drop)]
+#[derive(Clone, Copy)]
 pub enum Item {
     Milking {
         stall: u16,
@@ -27,7 +27,7 @@ pub fn head_of(item: Item) -> u16 {
     }
 }
 
-#[derive(Drop)]
+#[derive(Clone, Copy)]
 struct Pair {
     first: u16,
     second: u16,

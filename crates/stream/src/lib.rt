@@ -1,4 +1,6 @@
 // What a line program does between reading and writing: lines out of blocks of input, each answered as it ends.
+#![tactic(auto)]
+
 ghost use Rattle.std.specs.Prelude.{◌≡◌, ◌+◌, ◌≤◌, [], ◌∷◌, length, take};
 ghost use Rattle.line.specs.Parlour.{state_length};
 ghost use Rattle.stream.specs.Stream.{line_output, last_output};
@@ -14,14 +16,14 @@ pub const LINE: usize = 9;
 pub const ROOM: usize = ANSWER + 1;
 
 // How many bytes of the line so far are kept, and where the answers end.
-#[derive(Drop)]
+#[derive(Clone, Copy)]
 struct Place {
     kept: usize,
     end: usize,
 }
 
 // How much of a block was taken, how many bytes of the last line are kept, and how long the answers are.
-#[derive(Drop)]
+#[derive(Clone, Copy)]
 pub struct Fed {
     pub taken: usize,
     pub kept: usize,

@@ -1,27 +1,17 @@
 -- A block in pieces, and what a read brought.
 use Prim.Native.Nat.{ℕ, ◌+◌, ◌-◌, ◌≤◌, ◌<◌}
 use mathlib.Core.Path.{◌≡◌, refl, sym, ap, subst, ◌∙◌}
-use mathlib.Core.Bool.{Bool, true, false, true≢false}
-use mathlib.Core.List.{List, [], ◌∷◌, ◌++◌}
+use mathlib.Core.List.{List, [], ◌++◌}
 use native.Mathlib.Omega.{arith}
-use borrow.Author.Tests.{ltb-true}
-use lib.IntN.{ℤ, pos, negsuc}
-use lib.Signed.{lt_z}
 use lib.ListN.{length, take, drop, length-drop}
 use lib.Seq.{take-take, take-add, take_all, length-take-le}
-use mir.Syntax.{w64}
-use mir.Val.{SFits, to_z, of_z}
-use mir.ValLaws.{to_z-of_z}
-use Rattle.io.specs.Counts.{clamp_len}
 use Rattle.stream.specs.Stream.{output}
 use Rattle.stream.specs.Kept.{longest_line, kept_after}
 use Rattle.stream.specs.Call.{keeping, Ready, Answers, FeedCall}
 use Rattle.stream.specs.declared.Fed.{Fed}
 use Rattle.stream.proofs.Keeping.{Fits, kept_append, output_join}
 use Rattle.stream.proofs.Calls.{taken_of}
-use Rattle.wilbryn.specs.Turn.{Went, AfterSome, BlockAnswered, RestAnswered, AfterBlock, ReadAnswered}
-use Rattle.wilbryn.specs.declared.Turn.{Turn}
-use Rattle.wilbryn.specs.declared.Turn.TheVariants.{Unread}
+use Rattle.wilbryn.specs.Turn.{Went}
 
 -- what is left of a block
 rest_long : (block : List ℕ) (at : ℕ) → length (take (length block - at) (drop at block)) ≡ length block - at
@@ -75,35 +65,3 @@ piece block at {fed = fed} fits ready l v call =
 pub went_all : (block : List ℕ) (at : ℕ) {state text : List ℕ} {kept kept₁ : ℕ} {state₁ text₁ : List ℕ} → length block ≤ at → Went state text kept (take at block) state₁ text₁ kept₁
     → Went state text kept block state₁ text₁ kept₁
 went_all block at {state} {text} {kept} {kept₁} {state₁} {text₁} l = subst (λ i. Went state text kept i state₁ text₁ kept₁) (take_all at block l)
-
--- What a read brought, by what it answered
-
--- the machine reads the number that a read answered back from its bits: its sign, and how many bytes it counts
-pub tested : {got : ℤ} {b : Bool} → SFits w64 got → lt_z (to_z w64 (of_z w64 got)) (pos 0) ≡ b → lt_z got (pos 0) ≡ b
-tested {got} {b} fits = subst (λ z. lt_z z (pos 0) ≡ b) (to_z-of_z w64 got fits)
-
-pub counted : {got : ℤ} {n : ℕ} (most : ℕ) → SFits w64 got → n ≡ clamp_len (to_z w64 (of_z w64 got)) most → n ≡ clamp_len got most
-counted {got} {n} most fits = subst (λ z. n ≡ clamp_len z most) (to_z-of_z w64 got fits)
-
-pub read_failed : {state text : List ℕ} {kept : ℕ} {input out : List ℕ} (got : ℤ) → lt_z got (pos 0) ≡ true → ReadAnswered state text kept input got out state text out Unread
-read_failed (pos k) e = absurd (omega (arith, ltb-true k 0 e))
-read_failed (negsuc k) e = record { after = (refl, refl, refl, refl) }
-
-module _ {state text : List ℕ} {kept : ℕ} {input out state' text' out' : List ℕ} {turn : Turn} where
-  pub read_over : {n : ℕ} (got : ℤ) → lt_z got (pos 0) ≡ false → n ≡ clamp_len got (length input) → n ≡ 0 → RestAnswered state text kept out state' text' out' turn
-      → ReadAnswered state text kept input got out state' text' out' turn
-  read_over (pos k) e i j w = record { after = subst (λ m. AfterBlock state text kept (take m input) out state' text' out' turn) (sym j ∙ i) w.after }
-  read_over (negsuc k) e i j w = absurd (true≢false e)
-
-  pub read_some : {n : ℕ} (got : ℤ) → lt_z got (pos 0) ≡ false → n ≡ clamp_len got (length input) → 1 ≤ n → n ≤ length input
-      → BlockAnswered state text kept (take n input) state' text' turn → ReadAnswered state text kept input got out state' text' out' turn
-  read_some {n} (pos k) e i l m w =
-      record {
-        after = subst (λ m. AfterBlock state text kept (take m input) out state' text' out' turn) i
-            (go (take n input) (omega (arith, length-take-le n input m)) w.after);
-      }
-    where
-      go : (block : List ℕ) → 1 ≤ length block → AfterSome state text kept block state' text' turn → AfterBlock state text kept block out state' text' out' turn
-      go [] l w = absurd (omega arith)
-      go (b ∷ block) l w = w
-  read_some (negsuc k) e i l m w = absurd (true≢false e)

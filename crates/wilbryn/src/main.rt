@@ -1,12 +1,19 @@
 // The line program: standard input, one frame a line, to standard output, one answer a line. It reads and writes; all else is `stream`.
+#![tactic(auto)]
+
 ghost use Rattle.std.specs.Prelude.{◌≡◌};
 ghost use Rattle.stream.specs.Call.{Ready};
 ghost use Rattle.wilbryn.specs.Turn.{standard_input, standard_output, BlockAnswered, RestAnswered, ReadAnswered, TurnTaken, Ran, Start};
 
-use libc::{STDIN_FILENO, STDOUT_FILENO};
+use std::io::{Read, Stdin};
+
+// The descriptors of standard input and standard output.
+const STDIN_FILENO: i32 = 0;
+
+const STDOUT_FILENO: i32 = 1;
 
 // Whether to go on, with as many bytes of the last line; or the input is over, or a read or a write failed.
-#[derive(Drop)]
+#[derive(Clone, Copy)]
 enum Turn {
     More(usize),
     Over,
@@ -80,15 +87,20 @@ fn answer_read(
     answer_block(state, text, kept, &input[..n], out)
 }
 
-// Reads a block.
-fn read_from(descriptor: i32, input: &mut [u8]) -> isize
+// Reads a block, and answers how many bytes it brought, or -1 where the read failed. Of the descriptors there is a handle for standard
+// input alone.
+fn read_from(mut stdin: Stdin, descriptor: i32, input: &mut [u8]) -> isize
     requires { descriptor ≡ standard_input }
 {
-    libc::read(descriptor, input)
+    match stdin.read(input) {
+        Ok(count) => count as isize,
+        Err(_) => -1,
+    }
 }
 
 // Reads a block and answers it. Every answer so far is written before the read, which may wait.
 fn read_block(
+    stdin: Stdin,
     state: &mut [u8],
     text: &mut [u8],
     kept: usize,
@@ -98,32 +110,30 @@ fn read_block(
     requires { Ready state.old text.old kept out.old }
     ensures { TurnTaken state.old text.old kept out.old state.new text.new input.new out.new result }
 {
-    let got = read_from(STDIN_FILENO, input);
+    let got = read_from(stdin, STDIN_FILENO, input);
     answer_read(state, text, kept, input, got, out)
 }
 
-// A proved loop has to end, and nothing says that the input does: so it counts down from a number that no run uses up.
-fn run(state: &mut [u8], text: &mut [u8], input: &mut [u8], out: &mut [u8]) -> Turn
+// A proved loop has to end, and nothing says that the input does: so it counts to a number that no run uses up.
+fn run(stdin: Stdin, state: &mut [u8], text: &mut [u8], input: &mut [u8], out: &mut [u8]) -> Turn
     requires { Start state.old text.old out.old }
     ensures { Ran text.old state.new text.new result }
 {
     let mut kept = 0usize;
-    let mut turns = u64::MAX;
-    while turns > 0 {
-        let next = read_block(state, text, kept, input, out);
+    for _ in 0..u64::MAX {
+        let next = read_block(stdin, state, text, kept, input, out);
         let Turn::More(held) = next else {
             return next;
         };
         kept = held;
-        turns -= 1;
     }
     Turn::More(kept)
 }
 
-fn main() {
+fn main(rt: HostRuntime) {
     let mut state = [0u8; line::STATE];
     let mut text = [0u8; stream::LINE];
     let mut input = [0u8; 65536];
     let mut out = [0u8; 65536];
-    run(&mut state, &mut text, &mut input, &mut out);
+    run(rt.stdin(), &mut state, &mut text, &mut input, &mut out);
 }

@@ -10,6 +10,7 @@ use Rattle.image.specs.Check.{checked}
 use Rattle.image.specs.declared.Header.{Header}
 use Rattle.image.specs.declared.Checked.TheVariants.{Good, Refused}
 use Rattle.image.proofs.Accepted.{not_either}
+use Rattle.image.proofs.Stages.{number_le}
 use Rattle.merge.specs.Call.{refused_meeting, met_together, met_good, met_checked, meeting_call}
 
 -- two images "differ in N or have one stall"
@@ -44,3 +45,6 @@ module _ (s u buffer : List ℕ) where
       pub pair_met : apart h g ≡ false → length buffer ≡ h.n → met_together s u buffer h.n h.stall g.stall ≡ meeting_call s u buffer
       unfolding meeting_call met_checked met_good
       pair_met e f = rw (first, second, e, eq-eqb (length buffer) h.n f)
+
+-- what the refusals of a meeting rest on
+pub ruleset refusals = (number_le, one_parlour)

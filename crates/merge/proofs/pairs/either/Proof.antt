@@ -1,6 +1,0 @@
--- The one pair or the other.
-use Rattle.merge.proofs.pairs.either.Statement.{statement}
-use Rattle.merge.proofs.pairs.either.Tie as tie
-
-pub either_spec : {M : Type 1} → statement M
-either_spec = tie.close (tie.spec (λ c. rw c.if1.true) (λ c. rw c.if1.false))
