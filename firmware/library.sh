@@ -8,12 +8,13 @@ cd "$(dirname "${BASH_SOURCE[0]}")/.."
 out=$PWD/target/firmware
 mkdir -p "$out"
 if [ -z "$lib" ]; then
-    rt staticlib calls
+    firmware/archive calls
     lib=$PWD/target/staticlib/libcalls.a
 fi
 if [ -z "$program" ]; then
-    rt check wilbryn
-    program=$PWD/target/bin/wilbryn
+    # rt run builds it, and runs it on no input.
+    (cd crates/wilbryn && rt run </dev/null)
+    program=$PWD/crates/wilbryn/out/wilbryn
 fi
 exported=$(nm --quiet --extern-only --defined-only "$lib")
 declared=$(grep -o 'wilbryn_[a-z0-9_]*(' firmware/wilbryn.h)
