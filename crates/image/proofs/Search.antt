@@ -62,6 +62,3 @@ some_or (suc n) f g = shuffle (f (suc n)) (some n f) (g (suc n)) (some n g) ∙ 
     shuffle false true true d = refl
     shuffle false true false d = refl
     shuffle false false c d = refl
-
--- the steps of such a loop, for an answer or an attribute
-pub ruleset looks = (looked_start, looked_next, looked_as, looked_end)
