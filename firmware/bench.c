@@ -4,7 +4,7 @@
    the stack that they touch. What writes is timed on copies, the check on images where they lie, as
    at a start-up. Then it times a start-up: the check of 10,000 stored images of 8 heads, plain and
    packed. Where the calls of the landing before are linked in as before_check and so on, all are
-   timed against these too, in the same rounds, for the sizes that it has. */
+   timed against these too, in the same rounds, and with them milkings, packing and unpacking. */
 #define _XOPEN_SOURCE 700
 #include "wilbryn.h"
 
@@ -27,6 +27,9 @@ extern __typeof__(wilbryn_panel) plain_panel, expert_panel, plain_packed_panel;
 /* Null where no landing before is linked in. */
 #define WEAK __attribute__((weak))
 extern WEAK __typeof__(wilbryn_fresh) before_fresh, before_packed_fresh;
+extern WEAK __typeof__(wilbryn_milking) before_milking, before_packed_milking;
+extern WEAK __typeof__(wilbryn_pack) before_pack;
+extern WEAK __typeof__(wilbryn_unpack) before_unpack;
 extern WEAK __typeof__(wilbryn_check) before_check, before_packed_check;
 extern WEAK __typeof__(wilbryn_heard) before_heard, before_packed_heard;
 extern WEAK __typeof__(wilbryn_settled) before_settled, before_packed_settled;
@@ -36,7 +39,7 @@ extern WEAK __typeof__(wilbryn_panel) before_panel, before_packed_panel;
 enum { MOST = WILBRYN_MOST_HEADS, MOST_PACKED = WILBRYN_MOST_PACKED_HEADS };
 
 /* Of the landing before: its most heads, and the buffer that its panel wants. */
-enum { MOST_BEFORE = 8, PANEL_BEFORE = 128 };
+enum { MOST_BEFORE = 16, PANEL_BEFORE = 256 };
 
 enum form { UNPACKED, PACKED, FORMS };
 
@@ -50,6 +53,10 @@ struct version {
     __typeof__(wilbryn_settled) *settled;
     __typeof__(wilbryn_meeting) *meeting;
     __typeof__(wilbryn_panel) *panel;
+    /* Timed against the landing before alone: null where a version is not compared with it. */
+    __typeof__(wilbryn_milking) *milking;
+    __typeof__(wilbryn_pack) *pack;
+    __typeof__(wilbryn_unpack) *unpack;
 };
 
 /* The functions whose names start with these words. */
@@ -57,13 +64,20 @@ struct version {
     words##_fresh, words##_check, words##_heard, words##_settled, words##_meeting, words##_panel
 
 static const struct version
-    plain = {"plain", UNPACKED, MOST, WILBRYN_PANEL_LENGTH, CALLS(plain)},
-    expert = {"expert", UNPACKED, MOST, WILBRYN_PANEL_LENGTH, CALLS(expert)},
-    before = {"before", UNPACKED, MOST_BEFORE, PANEL_BEFORE, CALLS(before)},
-    wilbryn = {"wilbryn", UNPACKED, MOST, WILBRYN_PANEL_LENGTH, CALLS(wilbryn)},
-    plain_packed = {"plain", PACKED, MOST_PACKED, WILBRYN_PANEL_LENGTH, CALLS(plain_packed)},
-    before_packed = {"before", PACKED, MOST_PACKED, PANEL_BEFORE, CALLS(before_packed)},
-    wilbryn_packed = {"packed", PACKED, MOST_PACKED, WILBRYN_PANEL_LENGTH, CALLS(wilbryn_packed)};
+    plain = {"plain", UNPACKED, MOST, WILBRYN_PANEL_LENGTH, CALLS(plain),
+             NULL, NULL, NULL},
+    expert = {"expert", UNPACKED, MOST, WILBRYN_PANEL_LENGTH, CALLS(expert),
+              NULL, NULL, NULL},
+    before = {"before", UNPACKED, MOST_BEFORE, PANEL_BEFORE, CALLS(before), before_milking,
+              before_pack, before_unpack},
+    wilbryn = {"wilbryn", UNPACKED, MOST, WILBRYN_PANEL_LENGTH, CALLS(wilbryn), wilbryn_milking,
+               wilbryn_pack, wilbryn_unpack},
+    plain_packed = {"plain", PACKED, MOST_PACKED, WILBRYN_PANEL_LENGTH, CALLS(plain_packed),
+                    NULL, NULL, NULL},
+    before_packed = {"before", PACKED, MOST_PACKED, PANEL_BEFORE, CALLS(before_packed),
+                     before_packed_milking, before_pack, before_unpack},
+    wilbryn_packed = {"packed", PACKED, MOST_PACKED, WILBRYN_PANEL_LENGTH, CALLS(wilbryn_packed),
+                      wilbryn_packed_milking, wilbryn_pack, wilbryn_unpack};
 
 /* Of the versions that are compared, the last is measured against the others. */
 enum { VERSIONS = 4 };
@@ -205,6 +219,13 @@ static uint32_t heard(void) { return version->heard(work.first, len, work.output
 static uint32_t settled(void) { return version->settled(work.first, len, work.output, n); }
 static uint32_t meeting(void) {
     return version->meeting(work.first, len, work.second, len, work.output, n);
+}
+
+static uint32_t milking(void) { return version->milking(work.first, len, 999); }
+static uint32_t pack(void) { return version->pack(work.first, len, work.output, lens[PACKED]); }
+
+static uint32_t unpack(void) {
+    return version->unpack(work.first, len, work.second, lens[UNPACKED]);
 }
 
 static uint32_t panel(void) {
@@ -460,6 +481,27 @@ static void compare(const char *form, const char *against, compared these) {
     for (int i = 0; i < TIMED; i++) compare_call(form, against, &timed[i]);
 }
 
+/* What is timed against the landing before alone. Large parlours have no packed form. */
+static const struct timed
+    milk = {"milking", run_pairs, milking},
+    turn_packed = {"packing", run_pairs, pack},
+    turn_plain = {"unpacking", run_pairs, unpack};
+
+static void compare_since_before(void) {
+    const char *against = ", since before";
+    if (before.check != NULL) {
+        compare("", against, since_before);
+        compare_call("", against, &milk);
+        most = MOST_PACKED;
+        compare_call("", against, &turn_packed);
+    }
+    if (before_packed.check != NULL) {
+        compare("packed ", against, since_before_packed);
+        compare_call("packed ", against, &milk);
+        compare_call("", against, &turn_plain);
+    }
+}
+
 /* How many stored images have heard of this many stalls. */
 static int count_stored(uint32_t heard) {
     int count = 0;
@@ -504,8 +546,7 @@ int main(void) {
     make_stored();
     compare("", "", on_images);
     compare("packed ", "; wilbryn: that of the unpacked images", on_packed);
-    if (before.check != NULL) compare("", ", since before", since_before);
-    if (before_packed.check != NULL) compare("packed ", ", since before", since_before_packed);
+    compare_since_before();
     work_on(STORED_HEADS);
     printf("start-up: of %d stored images, %d of heads that met none, %d of heads that heard all\n",
            STORED, count_stored(0), count_stored(STORED_HEADS));
