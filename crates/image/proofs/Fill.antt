@@ -4,7 +4,7 @@ use mathlib.Core.Path.{◌≡◌, refl, sym, ap, ◌∙◌}
 use mathlib.Core.List.{List, []}
 use native.Mathlib.Omega.{arith}
 use native.Mathlib.Decide.{ℕ_discrete, dec_lt}
-use lib.ListN.{length, get_or, set, length-append, length-set, get_or-append, replicate, length-replicate, get_or-replicate}
+use lib.ListN.{length, get_or, set, length-append, length-set, get_or-append}
 use lib.Seq.{get_or_at, get_or-set_same, get_or-set_other, ext_get_or}
 use Rattle.image.specs.Row.{tabulate, never_at}
 use Rattle.image.specs.declared.Entry.{Entry}
@@ -30,14 +30,6 @@ pub record Filled (row : List Entry) (c m : ℕ) (f : ℕ → Entry) : Type 0 wh
   pub long : length row ≡ m
   pub filled : (k : ℕ) → k < c → get_or row k (never_at 0) ≡ f (suc k)
   pub rest : (k : ℕ) → c ≤ k → k < m → get_or row k (never_at 0) ≡ never_at 0
-
-pub filled_start : (m : ℕ) (f : ℕ → Entry) → Filled (replicate m (never_at 0)) 0 m f
-filled_start m f =
-    record {
-      long = length-replicate m (never_at 0);
-      filled = λ k l. absurd (omega arith);
-      rest = λ k a b. get_or-replicate m k (never_at 0) (never_at 0) b;
-    }
 
 pub filled_next : {row : List Entry} {c m : ℕ} {f : ℕ → Entry} (v : Entry) → Filled row c m f → c < m → v ≡ f (suc c) → Filled (set row c v) (c + 1) m f
 filled_next {row} {c} {m} {f} v w l e =

@@ -1,13 +1,12 @@
 -- A fresh image: that it is accepted, its bytes, and that it stands at the front of a run with room for it.
-use Prim.Native.Nat.{ℕ, suc, ◌+◌, ◌-◌, ◌*◌, ◌≤◌, ◌<◌}
+use Prim.Native.Nat.{ℕ, suc, ◌+◌, ◌-◌, ◌*◌, ◌≤◌}
 use mathlib.Core.Path.{◌≡◌, sym, ap, ap₂, ◌∙◌}
-use mathlib.Core.Bool.{false}
 use mathlib.Core.List.{List, ◌∷◌, ◌++◌, append-nil}
 use native.Mathlib.Omega.{arith}
-use borrow.Author.Tests.{le-leb, lt-leb}
+use borrow.Author.Tests.{le-leb}
 use lib.ListN.{length, take, drop, set, replicate, length-append, length-replicate}
 use Rattle.image.specs.Stalls.{each}
-use Rattle.image.specs.Layout.{largest, is_count, no_yield, image_length, length_of, order_width, yields_place, yields_from}
+use Rattle.image.specs.Layout.{largest, no_yield, image_length, length_of, order_width, yields_place, yields_from}
 use Rattle.image.specs.Fresh.{fresh_image, fresh_in}
 use Rattle.image.specs.Encode.{nothing, word_bytes, order_bytes, encode}
 use Rattle.image.proofs.Bits.{bits_none}
@@ -57,14 +56,6 @@ module _ (n own : ℕ) (n_from : 2 ≤ n) (n_to : n ≤ largest) where
       let e : length_of n - length_of n ≡ 0 = omega arith in
       fresh_in_lem (length_of n) (omega arith) ∙ ap (λ k. fresh_image n own ++ replicate k 0) e ∙ append-nil (fresh_image n own)
 
-  pub no_room : (long : ℕ) → long < length_of n → replicate long 0 ≡ fresh_in long n own
-  unfolding fresh_in
-  no_room long l = rw (lt-leb (length_of n) long l, le-leb 2 n n_from, le-leb n largest n_to)
-
-pub no_parlour : (long n own : ℕ) → is_count n ≡ false → replicate long 0 ≡ fresh_in long n own
-unfolding fresh_in
-no_parlour long n own e = rw e
-
 -- as it is written over zeros: N, the stall and the current yield, then the yields of m stalls in their place
 module _ (zeros begun : List ℕ) (n own m long at : ℕ)
     (asked : (2 ≤ n) × (n ≤ largest) × (long ≡ length_of n) × (long ≤ length zeros) × (zeros ≡ replicate (length zeros) 0)) (m_is : m ≡ n)
@@ -83,9 +74,6 @@ module _ (zeros begun : List ℕ) (n own m long at : ℕ)
 
   place_is : at ≡ yields_place n
   place_is = yields_from_lem whole m_is at_is
-
-  pub fresh_room : at + m * 2 ≤ length begun
-  fresh_room = omega (arith, place_is, whole, asked.3, ap length front_is, length-replicate {A = ℕ} (length zeros - 4) 0)
 
   pub fresh_written : take at begun ++ each m no_yield_bytes ++ drop (at + m * 2) begun ≡ fresh_in (length zeros) n own
   fresh_written =

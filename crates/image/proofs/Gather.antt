@@ -1,6 +1,6 @@
 -- Loops that gather the stalls of 1 to n that pass a test into a set.
 use Prim.Native.Nat.{ℕ, zero, suc, ◌+◌, ◌-◌, ◌^◌, ◌≤◌, ◌<◌}
-use mathlib.Core.Path.{◌≡◌, refl, sym, ap, ap₂, ◌∙◌}
+use mathlib.Core.Path.{◌≡◌, refl, sym, ap₂, ◌∙◌}
 use mathlib.Core.Bool.{Bool, cond}
 use native.Mathlib.Omega.{arith}
 use native.Mathlib.Nat.{pow-succ'}
@@ -49,9 +49,6 @@ bits_suc (suc s) f l =
 pub gather_next : {s one set : ℕ} {f : ℕ → Bool} → Gathered s set f → Bit one s → (t : Bool) {x : ℕ} → x ≡ cond t one 0 → t ≡ f s → Gathered (s + 1) (set + x) f
 gather_next {s} {f = f} w b t e d =
     record { so_far = ap₂ ◌+◌ w.so_far (e ∙ ap₂ (λ t o. cond t o 0) d b.is) ∙ sym (bits_suc s f b.from) }
-
-pub gather_end : {s set : ℕ} {f : ℕ → Bool} (n : ℕ) → Gathered s set f → n < s → s ≤ n + 1 → set ≡ bits n f
-gather_end {s} {f = f} n w a b = let e : s - 1 ≡ n = omega arith in w.so_far ∙ ap (λ k. bits k f) e
 
 -- what is gathered lies below the next bit
 pub gathered_lt : {s one set : ℕ} {f : ℕ → Bool} → Gathered s set f → Bit one s → set < one

@@ -3,12 +3,12 @@ use Prim.Native.Nat.{ℕ, zero, suc, ◌+◌, ◌-◌, ◌*◌, ◌/◌, ◌%◌
 use mathlib.Core.Path.{◌≡◌, refl, sym, ap, ap₂, subst, ◌∙◌}
 use mathlib.Core.Bool.{Bool, true, false, ◌||◌, not, cond, or_assoc, or_comm, not-not, true≢false}
 use native.Mathlib.Omega.{arith}
-use native.Mathlib.Nat.{add-mul, mul-add, mul_assoc, mul-le-mul_right, div-div-eq-div-mul, mod-lt, mod-eq_of_lt, zero-div, zero-mod}
+use native.Mathlib.Nat.{add-mul, mul-add, mul_assoc, mul-le-mul_right, div-div-eq-div-mul, mod-lt, zero-div, zero-mod}
 use native.Mathlib.Decide.{ℕ_discrete}
 use borrow.Author.Tests.{eq-eqb, ne_eqb, eqb-true, not-false}
 use lib.Bits.{bit_and, bit_or, bit_xor, or_add_and, and_le_l, and_le_r, and_shr, and_mod, or_shr, or_mod, xor_shr, xor_mod, or_shifted_r, xor_add_and, xor_self}
 use lib.Dec.{eqb}
-use lib.Pow.{pow_pos, pow-add, high, low, split, shr_lt, shl_exact, shr-shr, field, mod-mod-pow}
+use lib.Pow.{pow_pos, pow-add, high, low, split, shr_lt, shl_exact, field, mod-mod-pow}
 use Rattle.image.specs.Stalls.{some}
 use Rattle.image.specs.Lanes.{lanes, lane, pairs}
 use Rattle.image.proofs.Search.{some_agree, some_suc}
@@ -151,17 +151,6 @@ lane_behind width (suc m) x (suc i) l =
     let e : width * suc m ≡ width * m + width = omega arith in
     lane_next width _ i ∙ ap (λ j. lane width (x % 2 ^ j / 2 ^ width) i) e ∙ ap (λ y. lane width y i) (field x (width * m) width)
     ∙ lane_behind width m (x / 2 ^ width) i (omega arith)
-
--- none stands behind the k that a number has
-pub lane_beyond : (width k x i : ℕ) → x < 2 ^ (width * k) → k ≤ i → lane width x i ≡ 0
-lane_beyond width k x i l p = ap (λ y. lane width y i) (sym (mod-eq_of_lt l)) ∙ lane_behind width k x i p
-
--- shifted down by m lanes
-pub lane_shift : (width m x i : ℕ) → lane width (x / 2 ^ (width * m)) i ≡ lane width x (m + i)
-unfolding lane
-lane_shift width m x i =
-    let e : width * m + width * i ≡ width * (m + i) = omega arith in
-    ap (λ y. y % 2 ^ width) (shr-shr x (width * m) (width * i) ∙ ap (λ k. x / 2 ^ k) e)
 
 -- some lane of one number is not that of the other
 pub lanes_same : (width k : ℕ) (f g : ℕ → ℕ) → Fits width k f → Fits width k g

@@ -3,7 +3,6 @@ pub mod Search
 pub mod Counts
 pub mod Bits
 pub mod Windows
-pub mod Stopping
 pub mod Lanes
 pub mod Tables
 pub mod Gather

@@ -7,10 +7,10 @@ use native.Mathlib.Omega.{arith}
 use native.Mathlib.Nat.{add-mul, mul_comm, mul-le-mul, mul-le-mul_right, mod-eq_of_lt}
 use borrow.Author.Tests.{le-leb, leb-true}
 use lib.Dec.{leb}
-use lib.ListN.{length, get_or, take, drop, replicate, length-append, replicate-append-replicate, get_or-eq_default}
+use lib.ListN.{length, get_or, take, drop, replicate, length-append, replicate-append-replicate}
 use lib.Pow.{pow-add, pow_mono}
 use lib.Seq.{sets, sets-eq}
-use Rattle.image.specs.Layout.{largest, length_of, word, order_width, number_at, order_from, order_place, image_length}
+use Rattle.image.specs.Layout.{largest, length_of, order_width, number_at, order_from, order_place, image_length}
 use Rattle.image.specs.Encode.{word_bytes, number_bytes, order_bytes}
 use Rattle.image.proofs.Search.{times_step}
 use Rattle.image.proofs.Has.{Has, has_first, has_one, has_left, has_right, has_both, has_place}
@@ -102,13 +102,6 @@ unfolding number_at
 number_same s u at zero same = refl
 number_same s u at (suc width) same = ap₂ (λ a b. a * 256 + b) (number_same s u at width same) (same (at + width) (omega arith))
 
-number_out : (s : List ℕ) (at width : ℕ) → length s ≤ at → number_at s at width ≡ 0
-unfolding number_at
-number_out s at zero l = refl
-number_out s at (suc width) l =
-    let e : get_or s (at + width) 0 ≡ 0 = get_or-eq_default s 0 (omega arith) in
-    omega (arith, number_out s at width l, e)
-
 -- What its bytes say
 
 -- a width is that of some byte and those before it
@@ -144,20 +137,7 @@ pub entry_same : (s u : List ℕ) (n at : ℕ) → ((k : ℕ) → at ≤ k → g
 unfolding order_from
 entry_same s u n at same = number_same s u at (order_width n) same
 
--- nothing past the end
-pub order_out : (s : List ℕ) (n at : ℕ) → length s ≤ at → order_from s n at ≡ 0
-unfolding order_from
-order_out s n at l = number_out s at (order_width n) l
-
 -- one byte, or two
-pub order_byte : (s : List ℕ) (n at : ℕ) → order_width n ≡ 1 → order_from s n at ≡ get_or s at 0
-unfolding order_from number_at
-order_byte s n at e = let i : at + 0 ≡ at = omega arith in ap (number_at s at) e ∙ omega (arith, ap (λ k. get_or s k 0) i)
-
-pub order_word : (s : List ℕ) (n at : ℕ) → order_width n ≡ 2 → order_from s n at ≡ word s at
-unfolding order_from number_at
-order_word s n at e = let i : at + 0 ≡ at = omega arith in ap (number_at s at) e ∙ omega (arith, ap (λ k. get_or s k 0) i)
-
 pub bytes_one : (n x : ℕ) → order_width n ≡ 1 → order_bytes n x ≡ x ∷ []
 unfolding order_bytes number_bytes
 bytes_one n x e = ap (λ width. number_bytes width x) e

@@ -1,6 +1,6 @@
 -- The names of a row by words of four, what stands behind the row cut off; and the rows one after the other.
-use Prim.Native.Nat.{ℕ, min, suc, ◌+◌, ◌-◌, ◌*◌, ◌%◌, ◌^◌, ◌≤◌, ◌<◌}
-use mathlib.Core.Path.{◌≡◌, sym, ap, ap₂, ◌∙◌}
+use Prim.Native.Nat.{ℕ, min, ◌+◌, ◌-◌, ◌*◌, ◌%◌, ◌^◌, ◌≤◌, ◌<◌}
+use mathlib.Core.Path.{◌≡◌, refl, sym, ap, ap₂, ◌∙◌}
 use mathlib.Core.Bool.{Bool, false, ◌||◌}
 use mathlib.Core.List.{List}
 use native.Mathlib.Omega.{arith}
@@ -15,7 +15,6 @@ use Rattle.image.specs.Check.{bad_name}
 use Rattle.image.specs.Columns.{columns_from, bad_at}
 use Rattle.image.proofs.Search.{some_agree}
 use Rattle.image.proofs.Windows.{one_window, some_split}
-use Rattle.image.proofs.Stopping.{Stopping}
 use Rattle.image.proofs.Places.{row_within}
 use Rattle.image.proofs.OrderEntry.{orders_long}
 use Rattle.image.proofs.Lanes.{lane_of, lane_within, lane_behind}
@@ -82,39 +81,44 @@ module _ (s : List ℕ) (bytes : (k : ℕ) → get_or s k 0 < 256) where
         let w = bit_and (word_at place) (2 ^ (16 * m) - 1) in ap (λ x. bad_name n limit x (lane 8 w (j * 2 - 2)) (lane 8 w (j * 2 - 1))) (column_is c b j k l))
         ∙ cut_word c m place a p
 
-    -- the eight names behind column c, as far as some are left, in two words
-    module _ (c left : ℕ) {columns w mask : ℕ} (c_to : c ≤ 119) (columns_is : columns ≡ columns_from c) (w_is : w ≡ word_at (at + c + c)) (mask_is : mask ≡ 2 ^ (16 * min left 4) - 1) where
-      first_word : (m : ℕ) → min left 4 ≡ m → tested (bit_and w mask) columns ≡ some m (λ j. bad (c + j))
-      first_word m e = word_test c m (omega arith) (omega arith) (omega arith) columns_is w_is (mask_is ∙ ap (λ k. 2 ^ (16 * k) - 1) e)
+    -- the eight names behind column c, as far as some are left, in a word, or in two
+    module _ (c left : ℕ) {columns w : ℕ} (c_to : c ≤ 119) (columns_is : columns ≡ columns_from c) (w_is : w ≡ word_at (at + c + c)) where
+      pub short_row : {mask : ℕ} → mask ≡ 2 ^ (16 * min left 4) - 1 → left ≤ 4 → tested (bit_and w mask) columns ≡ some (min left 8) (λ j. bad (c + j))
+      short_row f l =
+          let e : min left 4 ≡ min left 8 = omega arith in
+          word_test c (min left 8) (omega arith) (omega arith) (omega arith) columns_is w_is (f ∙ ap (λ k. 2 ^ (16 * k) - 1) e)
 
-      pub short_row : left ≤ 4 → tested (bit_and w mask) columns ≡ some (min left 8) (λ j. bad (c + j))
-      short_row l = first_word (min left 8) (omega arith)
+      -- nothing cut off the first
+      first_word : w < 2 ^ 64 → tested w columns ≡ some 4 (λ j. bad (c + j))
+      first_word l =
+          let e : w % 2 ^ 64 ≡ w = omega (arith, l) in
+          ap (λ x. tested x columns) (sym (and_mask w 64 ∙ e)) ∙ word_test c 4 (omega arith) (omega arith) (omega arith) columns_is w_is refl
 
-      pub long_row : {v cut : ℕ} → 4 < left → v ≡ word_at (at + c + c + 8) → cut ≡ 2 ^ (16 * min (left - 4) 4) - 1
-          → (tested (bit_and v cut) (columns + 0x0004000400040004) || tested (bit_and w mask) columns) ≡ some (min left 8) (λ j. bad (c + j))
-      long_row l d f =
+      pub long_row : {v cut : ℕ} → w < 2 ^ 64 → 4 < left → v ≡ word_at (at + c + c + 8) → cut ≡ 2 ^ (16 * min (left - 4) 4) - 1
+          → (tested (bit_and v cut) (columns + 0x0004000400040004) || tested w columns) ≡ some (min left 8) (λ j. bad (c + j))
+      long_row small l d f =
           let m = min (left - 4) 4 in
           let k : 4 + m ≡ min left 8 = omega arith in
           let behind = word_test (c + 4) m (omega arith) (omega arith) (omega arith) (ap (λ x. x + 0x0004000400040004) columns_is ∙ columns_on c 4) d f in
           ap₂ ◌||◌
           (behind ∙ some_agree m (λ j. bad (c + 4 + j)) (λ j. bad (c + (4 + j))) (λ j p q. let e : c + 4 + j ≡ c + (4 + j) = omega arith in ap bad e))
-          (first_word 4 (omega arith))
+          (first_word small)
           ∙ some_split 4 m (λ j. bad (c + j)) ∙ ap (λ i. some i (λ j. bad (c + j))) k
 
--- The row that a loop over the rows, which counts down what is left, has come to
+-- The row behind the first k, at its place
 
-module _ (s : List ℕ) {n at left : ℕ} {found : Bool} {f : ℕ → Bool} (w : Stopping n (n + n) 4 at left found f) where
+module _ (s : List ℕ) (n k : ℕ) {at : ℕ} (stands : at ≡ 4 + k * (n + n)) where
   -- it has room, and the yields and the marks behind it
-  pub row_room : Sized s n → 0 < left → at + n * 5 ≤ length s
+  pub row_room : Sized s n → k < n → at + n * 5 ≤ length s
   row_room z l =
-      let e : suc (n - left) - 1 ≡ n - left = omega arith in
-      omega (arith, w.stands, w.to, z.long, orders_long n, ap (λ k. k * (n + n)) e, row_within {n = n} {r = suc (n - left)} (omega arith) (omega arith))
+      let e : k + 1 - 1 ≡ k = omega arith in
+      omega (arith, stands, z.long, orders_long n, ap (λ j. j * (n + n)) e, row_within {n = n} {r = k + 1} (omega arith) (omega arith))
 
   -- and names at their places
   pub row_names : (c m : ℕ) {bad : Bool}
       → bad ≡ some m (λ j. bad_name n (label_limit n) (c + j) (get_or s (at + (c + j - 1) * 2) 0) (get_or s (at + (c + j - 1) * 2 + 1) 0))
-      → bad ≡ some m (λ j. bad_at s n (suc (n - left)) (c + j))
+      → bad ≡ some m (λ j. bad_at s n (k + 1) (c + j))
   row_names c m e =
-      let d : suc (n - left) - 1 ≡ n - left = omega arith in
-      let i : at ≡ row_place n (suc (n - left)) = w.stands ∙ ap (λ k. 4 + k * (n + n)) (sym d) in
+      let d : k + 1 - 1 ≡ k = omega arith in
+      let i : at ≡ row_place n (k + 1) = stands ∙ ap (λ j. 4 + j * (n + n)) (sym d) in
       e ∙ ap (λ k. some m (λ j. bad_name n (label_limit n) (c + j) (get_or s (k + (c + j - 1) * 2) 0) (get_or s (k + (c + j - 1) * 2 + 1) 0))) i

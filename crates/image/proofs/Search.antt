@@ -3,6 +3,7 @@ use Prim.Native.Nat.{ℕ, zero, suc, ◌+◌, ◌-◌, ◌*◌, ◌≤◌, ◌<�
 use mathlib.Core.Path.{◌≡◌, refl, sym, ap, ap₂, ◌∙◌}
 use mathlib.Core.Bool.{Bool, true, false, ◌||◌}
 use native.Mathlib.Omega.{arith}
+use Rattle.std.proofs.Math.Bool.{or_comm}
 use Rattle.image.specs.Stalls.{some}
 
 -- the invariant: before the turn at s, the stalls below s have been looked at, and s stands at its place
@@ -37,9 +38,19 @@ looked_next {n} {width} {at} {place} {s} {found} {f} w l t e =
       so_far = rw a (ap₂ ◌||◌ e w.so_far ∙ sym (some_suc f s w.from));
     }
 
+-- the next one
+pub some_next : (n : ℕ) (f : ℕ → Bool) {x y : Bool} → x ≡ f (n + 1) → y ≡ some n f → (y || x) ≡ some (n + 1) f
+unfolding some
+some_next n f {x} {y} p q = let e : n + 1 ≡ suc n = omega arith in or_comm y x ∙ rw (p, q, e) refl
+
 -- what is found may be said in another way
 pub looked_as : {n width at place s : ℕ} {found said : Bool} {f : ℕ → Bool} → said ≡ found → Looked n width at place s found f → Looked n width at place s said f
 looked_as e w = record { from = w.from; to = w.to; stands = w.stands; so_far = e ∙ w.so_far }
+
+-- the next one, told last
+pub looked_more : {n width at place s : ℕ} {found : Bool} {f : ℕ → Bool} → Looked n width at place s found f → s ≤ n → (t : Bool) → t ≡ f s
+    → Looked n width at (place + width) (s + 1) (found || t) f
+looked_more {found = found} w l t e = looked_as (or_comm found t) (looked_next w l t e)
 
 pub looked_end : {n width at place s : ℕ} {found : Bool} {f : ℕ → Bool} → Looked n width at place s found f → n < s → found ≡ some n f
 looked_end {n} {s = s} {f = f} w l = let e : s - 1 ≡ n = omega arith in w.so_far ∙ ap (λ k. some k f) e

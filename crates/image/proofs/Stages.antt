@@ -49,23 +49,12 @@ sized {s} e d =
 -- Which number applies first
 
 module _ (s : List ℕ) (n own : ℕ) where
-  pub refused_3 : bad_stall n own ≡ true → Refused 3 ≡ check_body s n own
-  unfolding check_body
-  refused_3 a = rw a
-
-  pub refused_4 : bad_stall n own ≡ false → bad_yields s n ≡ true → Refused 4 ≡ check_body s n own
-  unfolding check_body
-  refused_4 a b = rw (a, b)
-
   -- where 3 and 4 do not apply
   abbrev pub later : Checked
   later = cond (bad_names s n own) (Refused 5) (cond (bad_marks s n own) (Refused 6) (Good (record { n = n; stall = own })))
 
   pub later_5 : bad_names s n own ≡ true → Refused 5 ≡ later
   later_5 a = rw a
-
-  pub later_6 : bad_names s n own ≡ false → bad_marks s n own ≡ true → Refused 6 ≡ later
-  later_6 a b = rw (a, b)
 
   pub later_good : bad_names s n own ≡ false → bad_marks s n own ≡ false → Good (record { n = n; stall = own }) ≡ later
   later_good a b = rw (a, b)
@@ -85,10 +74,6 @@ module _ (s : List ℕ) where
   pub refused_empty : length s ≡ 0 → Refused 1 ≡ checked s
   unfolding checked bad_count
   refused_empty a = rw (eq-eqb (length s) 0 a)
-
-  pub refused_1 : (length s ≡ 0 → ⊥) → not (leb 2 (get_or s 0 0) && leb (get_or s 0 0) largest) ≡ true → Refused 1 ≡ checked s
-  unfolding checked bad_count
-  refused_1 a b = rw (ne_eqb (length s) 0 a, b)
 
   pub refused_2 : (length s ≡ 0 → ⊥) → not (leb 2 (get_or s 0 0) && leb (get_or s 0 0) largest) ≡ false → (length s ≡ length_of (get_or s 0 0) → ⊥) → Refused 2 ≡ checked s
   unfolding checked bad_count bad_length

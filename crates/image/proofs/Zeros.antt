@@ -1,12 +1,11 @@
--- Runs of zeros: a part of one, zeros behind other bytes, blocks of zeros one after the other, and zeros written one by one.
-use Prim.Native.Nat.{ℕ, zero, suc, ◌+◌, ◌-◌, ◌*◌, ◌≤◌, ◌<◌}
+-- Runs of zeros: a part of one, zeros behind other bytes, and blocks of zeros one after the other.
+use Prim.Native.Nat.{ℕ, zero, suc, ◌+◌, ◌-◌, ◌*◌, ◌≤◌}
 use mathlib.Core.Path.{◌≡◌, refl, sym, ap, ap₂, ◌∙◌}
-use mathlib.Core.List.{List, [], ◌∷◌, ◌++◌, append_assoc, append-nil}
+use mathlib.Core.List.{List, ◌∷◌, ◌++◌, append_assoc, append-nil}
 use native.Mathlib.Omega.{arith}
-use lib.ListN.{length, take, drop, set, replicate, length-append, length-replicate, replicate-append-replicate, take-append-drop, drop_of_length-le}
-use lib.Seq.{length-take-le, take-append-add, drop-append-add}
+use lib.ListN.{length, take, drop, replicate, replicate-append-replicate, drop_of_length-le}
+use lib.Seq.{take-append-add, drop-append-add}
 use Rattle.image.specs.Stalls.{each}
-use Rattle.image.proofs.Overwrite.{store_next}
 
 pub take_zeros : (k m : ℕ) → k ≤ m → take {A = ℕ} k (replicate m 0) ≡ replicate k 0
 take_zeros zero m l = refl
@@ -43,22 +42,7 @@ each_zeros (suc n) w =
 pub cleared : List ℕ → ℕ → ℕ → List ℕ
 cleared d at i = take at d ++ replicate (i - at) 0 ++ drop i d
 
-pub cleared_start : (d : List ℕ) (at : ℕ) → d ≡ cleared d at at
-unfolding cleared
-cleared_start d at =
-    let e : at - at ≡ 0 = omega arith in
-    sym (ap (λ k. take at d ++ replicate k 0 ++ drop at d) e ∙ ap (λ r. r ++ drop at d) (append-nil (take at d)) ∙ take-append-drop at d)
-
-pub cleared_next : (d : List ℕ) (at i : ℕ) → at ≤ i → i < length d → set (cleared d at i) i 0 ≡ cleared d at (i + 1)
-unfolding cleared
-cleared_next d at i a l =
-    let long : length (take at d ++ replicate (i - at) 0) ≡ i =
-    length-append (take at d) (replicate (i - at) 0) ∙ omega (arith, length-take-le at d (omega arith), length-replicate {A = ℕ} (i - at) 0) in
-    let j : i - at + 1 ≡ i + 1 - at = omega arith in
-    store_next d (take at d ++ replicate (i - at) 0) i 0 long l
-    ∙ ap (λ r. r ++ drop (i + 1) d) (append_assoc (take at d) (replicate (i - at) 0) (0 ∷ []) ∙ ap (λ r. take at d ++ r) (replicate-append-replicate (i - at) 1 0))
-    ∙ ap (λ m. take at d ++ replicate m 0 ++ drop (i + 1) d) j
-
+-- all of them, by whatever loop
 pub cleared_end : (d : List ℕ) (at i : ℕ) → length d ≤ i → i - at ≡ length d - at → cleared d at i ≡ take at d ++ replicate (length d - at) 0
 unfolding cleared
 cleared_end d at i l e = ap₂ (λ k r. take at d ++ replicate k 0 ++ r) e (drop_of_length-le d l) ∙ append-nil _
@@ -66,8 +50,5 @@ cleared_end d at i l e = ap₂ (λ k r. take at d ++ replicate k 0 ++ r) e (drop
 -- from the front on, all of it
 pub cleared_whole : (d z : List ℕ) → z ≡ take 0 d ++ replicate (length d - 0) 0 → z ≡ replicate (length d) 0
 cleared_whole d z e = e ∙ ap (λ k. replicate k 0) (let i : length d - 0 ≡ length d = omega arith in i)
-
--- the steps of a loop that clears
-pub ruleset clearing = (cleared_start, cleared_next, cleared_end)
 
 pub ruleset cleared_all = (cleared_whole)

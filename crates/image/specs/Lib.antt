@@ -6,6 +6,7 @@ pub mod Encode
 pub mod Fresh
 pub mod Frame
 pub mod Check
+pub mod Refusal
 pub mod Columns
 pub mod Row
 pub mod Examples

@@ -1,11 +1,12 @@
 // One table as bytes: its forms in the code, its lengths, and its check.
 #![tactic(auto)]
 
-ghost use Rattle.std.specs.Prelude.{◌≡◌, ◌≤◌, cond, length, replicate};
+ghost use Rattle.std.specs.Prelude.{◌≡◌, ◌+◌, ◌≤◌, length, replicate};
 ghost use Rattle.image.specs.Layout.{label_limit, largest, length_of, name_from};
 ghost use Rattle.image.specs.Fresh.{fresh_in};
 ghost use Rattle.image.specs.Frame.{Sized, Framed};
-ghost use Rattle.image.specs.Check.{bad_names, bad_marks, check_body, checked, number_of};
+ghost use Rattle.image.specs.Refusal.{number};
+ghost use Rattle.image.specs.Check.{check_body, checked, number_of};
 
 pub mod bytes;
 pub mod marks;
@@ -15,7 +16,7 @@ pub mod rows;
 mod words;
 pub mod yields;
 
-// The most heads that a parlour has, the bytes of a row of names of so many, and of their image.
+// The most heads that a parlour has, the bytes of a row of names of so many, and of their image. (Cast: a constant calls no From.)
 pub const LARGEST: u8 = 16;
 
 pub const STALLS: usize = LARGEST as usize;
@@ -25,47 +26,94 @@ pub const ROW: usize = 2 * STALLS;
 pub const LONGEST: usize = 4 + 2 * STALLS * STALLS + 4 * STALLS;
 
 // The meeting with a partner that has a label.
-#[derive(Clone, Copy)]
+#[derive(Clone, Copy, Debug, PartialEq, Eq)]
 pub struct Meet {
     pub partner: u8,
     pub label: u8,
 }
 
-// A name is either none, or a partner with a label.
-#[derive(Clone, Copy)]
+// A name is either none, or a partner with a label. Not an Option: a rule of the project names this enum, and the record that holds it.
+#[derive(Clone, Copy, Debug, PartialEq, Eq)]
 pub enum Name {
     Never,
     With(Meet),
 }
 
-// A record of a row.
-#[derive(Clone, Copy)]
+// A record of a row, as many as there are stalls. An array of it goes by value: a rule of the project.
+#[derive(Clone, Copy, Debug, PartialEq, Eq)]
 pub struct Entry {
     pub name: Name,
 }
 
 // What an image begins with.
-#[derive(Clone, Copy)]
+#[derive(Clone, Copy, Debug, PartialEq, Eq)]
 pub struct Header {
     pub n: u8,
     pub stall: u8,
 }
 
-// The answer of a check: the header, or the first number that applies.
-#[derive(Clone, Copy)]
+// Why a call is refused. The numbers stand in the interface for C, and here.
+#[derive(Clone, Copy, Debug, PartialEq, Eq)]
+pub enum Refusal {
+    Count = 1,
+    Length = 2,
+    Stall = 3,
+    Yield = 4,
+    Name = 5,
+    Mark = 6,
+    Strangers = 7,
+    Buffer = 8,
+    Verdict = 9,
+}
+
+impl Refusal {
+    // The number that a call answers. A cast: std has no From of an enum's number.
+    #[tactic(auto, unfolding(crate::specs::Refusal::number))]
+    pub fn number(self) -> u32
+        ensures { result ≡ number self }
+    {
+        self as u32
+    }
+
+    // What a call adds to the number of a refusal where its other answers are numbers below this one.
+    pub const ABOVE: u32 = 256;
+
+    // The answer of such a call.
+    pub fn answer(self) -> u32
+        ensures { result ≡ 256 + number self }
+    {
+        Refusal::ABOVE + self.number()
+    }
+}
+
+// The answer of a check: the header, or the first number that applies. Not a Result: a rule of the project names this enum, which callers take
+// apart by let .. else.
+#[derive(Clone, Copy, Debug, PartialEq, Eq)]
 pub enum Checked {
     Good(Header),
     Refused(u32),
 }
 
-// The table of a head that has heard nobody: N and its stall say all of it.
+// The image of a head whose N, stall and length are right, lent: its bytes, and the two of its numbers that all that reads it goes by. Functions
+// that only count, in words or places, take the numbers that they need: with `n ≤ largest` alone a type of its own would be no plainer, a field and
+// a literal more at each call. Functions that read bytes at a place take the slice: behind `&Image` its bytes have no bound.
 #[derive(Clone, Copy)]
+pub struct Image<'a> {
+    pub bytes: &'a [u8],
+    pub n: u8,
+    pub own: u8,
+    pub ghost framed: { Framed bytes.now n own },
+}
+
+// The table of a head that has heard nobody: N and its stall say all of it.
+#[derive(Clone, Copy, Debug, PartialEq, Eq)]
 pub struct Head {
     pub n: u8,
     pub stall: u8,
 }
 
-// Image lengths by the number of stalls; in two bytes each, since the table is laid out anew at each look.
+// Image lengths by the number of stalls, a table by a rule of the project; in two bytes each, since it is laid out anew at each look. (Cast: a
+// constant calls no From.)
 const LENGTHS: [u16; STALLS + 1] = [
     0,
     0,
@@ -96,7 +144,7 @@ impl Head {
     pub fn label_limit(n: u8) -> usize
         ensures { result ≡ label_limit n }
     {
-        bytes::less(4 * bytes::wide(n), 2)
+        (4 * usize::from(n)).saturating_sub(2)
     }
 
     pub fn fresh(n: u8, stall: u8) -> Head
@@ -115,7 +163,7 @@ impl Head {
         if bytes::bad_count(n) {
             return;
         }
-        let long = length_of(bytes::wide(n));
+        let long = length_of(usize::from(n));
         if image.len() < long {
             return;
         }
@@ -129,17 +177,11 @@ fn put_fresh(image: &mut [u8], n: u8, stall: u8, long: usize)
     requires { (2 ≤ n) × (n ≤ largest) × (long ≡ length_of n) × (long ≤ length image.old) × (image.old ≡ replicate (length image.old) 0) }
     ensures { image.new ≡ fresh_in (length image.old) n stall }
 {
-    let m = bytes::wide(n);
+    let m = usize::from(n);
     image[0] = n;
     image[1] = stall;
     yields::put_no_yields(image, 2, 1);
     yields::put_no_yields(image, bytes::yields_place(long, m), m);
-}
-
-fn widen_length(x: u16) -> usize
-    ensures { result ≡ x }
-{
-    x as usize
 }
 
 // The length of an image of n stalls, 0 where n is that of no parlour.
@@ -148,7 +190,7 @@ pub fn length_of(n: usize) -> usize
     ensures { result ≡ length_of n }
 {
     if n <= STALLS {
-        widen_length(LENGTHS[n])
+        usize::from(LENGTHS[n])
     } else {
         0
     }
@@ -172,14 +214,14 @@ pub fn check(image: &[u8]) -> Checked
     ensures { result ≡ checked image.now }
 {
     if image.len() == 0 {
-        return Checked::Refused(1);
+        return Checked::Refused(Refusal::Count.number());
     }
     let n = image[0];
     if bytes::bad_count(n) {
-        return Checked::Refused(1);
+        return Checked::Refused(Refusal::Count.number());
     }
-    if image.len() != length_of(bytes::wide(n)) {
-        return Checked::Refused(2);
+    if image.len() != length_of(usize::from(n)) {
+        return Checked::Refused(Refusal::Length.number());
     }
     check_body(image, n, image[1])
 }
@@ -191,35 +233,28 @@ fn check_body(image: &[u8], n: u8, own: u8) -> Checked
     ensures { result ≡ check_body image.now n own }
 {
     if bytes::bad_stall(n, own) {
-        return Checked::Refused(3);
+        return Checked::Refused(Refusal::Stall.number());
     }
-    if yields::bad_yields(image, bytes::wide(n)) {
-        return Checked::Refused(4);
+    if yields::bad_yields(image, usize::from(n)) {
+        return Checked::Refused(Refusal::Yield.number());
     }
-    names_and_marks(image, n, own)
-}
-
-// The checks 5 and 6.
-fn names_and_marks(image: &[u8], n: u8, own: u8) -> Checked
-    requires { Framed image.now n own }
-    ensures { result
-        ≡ cond (bad_names image.now n own) (Checked.Refused 5)
-        (cond (bad_marks image.now n own) (Checked.Refused 6) (Checked.Good (record { n = n; stall = own }))) }
-{
-    let stalls = bytes::wide(n);
-    let stall = bytes::wide(own);
-    let ownrow = bytes::row_start(stalls, stall);
-    let latests = names::own_names(image, stalls, stall, ownrow);
-    if names::bad_names(image, stalls, stall, ownrow, latests) {
-        return Checked::Refused(5);
+    let x = Image {
+        bytes: image,
+        n,
+        own,
+    };
+    let ownrow = bytes::row_start(usize::from(n), usize::from(own));
+    let latests = names::own_names(&x, ownrow);
+    if names::bad_names(&x, ownrow, latests) {
+        return Checked::Refused(Refusal::Name.number());
     }
-    if marks::bad_marks(image, stalls, stall, latests.set) {
-        return Checked::Refused(6);
+    if marks::bad_marks(&x, latests.set) {
+        return Checked::Refused(Refusal::Mark.number());
     }
     Checked::Good(Header { n, stall: own })
 }
 
-// The number of an answer: 0 for a good image.
+// The number of an answer: 0 for a good image. A function, as docs/ name it.
 pub fn number_of(c: Checked) -> u32
     ensures { result ≡ number_of c }
 {

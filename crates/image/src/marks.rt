@@ -3,22 +3,16 @@ ghost use Rattle.std.specs.Prelude.{◌≡◌, ◌-◌, ◌^◌, ◌<◌, ◌≤
 ghost use Rattle.std.specs.Int.Bits.{bit_and};
 ghost use Rattle.image.specs.Stalls.{bits, bit_of};
 ghost use Rattle.image.specs.Layout.{largest, heard_at};
-ghost use Rattle.image.specs.Frame.{Framed};
 ghost use Rattle.image.specs.Check.{bad_marks};
 
-use crate::orders::{order_at, order_width, orders_place};
+use crate::Image;
+use crate::orders::{order_width, orders_place, whole_order};
 
 // x, or nothing.
 pub fn pick(b: bool, x: u64) -> u64
     ensures { (result ≡ cond b x 0) × (result ≤ x) }
 {
     if b { x } else { 0 }
-}
-
-pub fn widen(b: u8) -> u64
-    ensures { (result ≡ b) × (result < 256) }
-{
-    b as u64
 }
 
 // The bit of a stall.
@@ -56,21 +50,25 @@ fn bad_order(order: u64, set: u64, one: u64, mine: u64) -> u64
     (order & set) ^ ((order | one) | mine)
 }
 
-// Check 6, by the set of heard stalls: no mark but of a heard stall to a heard one, and of each of these to itself and to the own stall.
-pub(crate) fn bad_marks(image: &[u8], n: usize, own: usize, set: u64) -> bool
-    requires { Framed image.now n own × (set ≡ bits n (heard_at image.now n own)) }
-    ensures { result ≡ bad_marks image.now n own }
+// Check 6, by the set of heard stalls: no mark but of a heard stall to a heard one, and of each of these to itself and to the own stall. The place
+// and the bit go on with the loop, as all places do in the check, which does not multiply. An iterator over order entries would be no plainer: it has
+// four ghost members, in place of two sums a turn.
+pub(crate) fn bad_marks(x: &Image<'_>, set: u64) -> bool
+    requires { set ≡ bits x.now.n (heard_at x.now.bytes.now x.now.n x.now.own) }
+    ensures { result ≡ bad_marks x.now.bytes.now x.now.n x.now.own }
 {
-    let mine = 1u64 << (own - 1);
+    let image = x.bytes;
+    // By a cast, here and in names.rt: From is a call with a result of its own, of which the invariant of a loop says nothing.
+    let n = x.n as usize;
+    let mine = 1u64 << (x.own - 1);
     let width = order_width(n);
-    let end = image.len();
     let mut bad = 0u64;
     let mut one = 1u64;
-    let mut at = orders_place(end, n);
-    while at < end {
-        bad = bad_order(order_at(image, n, at), set, one, mine) | bad;
+    let mut at = orders_place(image.len(), n);
+    for _ in 0..n {
+        bad |= bad_order(whole_order(image, n, at), set, one, mine);
         one += one;
         at += width;
     }
-    !(bad == 0)
+    bad != 0
 }

@@ -4,25 +4,23 @@ ghost use Rattle.image.specs.Stalls.{some};
 ghost use Rattle.image.specs.Lanes.{lane, pairs};
 ghost use Rattle.image.specs.Columns.{Low, columns_from, bad_at, OwnNames};
 ghost use Rattle.image.specs.Layout.{label_limit, largest, no_yield, row_place, word};
-ghost use Rattle.image.specs.Frame.{Sized, Framed};
 ghost use Rattle.image.specs.Check.{bad_name, bad_unheard, bad_names};
 
-use crate::Head;
 use crate::bytes::{word_at, yields_place};
-use crate::marks::{has_all, pick, widen};
-use crate::words::{EIGHTHS, SEVENS, eight, first_lanes, four_times};
+use crate::marks::{has_all, pick};
+use crate::words::{EIGHTHS, FOUR_ONES, SEVENS, eight, first_lanes, four_times};
 use crate::yields::is_not_milked;
+use crate::{Head, Image};
 
-// The eighth bit of the partner bytes of four names; the columns 1 to 4 at these bytes, and what takes columns to those four and eight behind them.
+// The eighth bit of the partner bytes of four names; the columns 1 to 4 at these bytes, and what takes columns to those four behind them.
 const PARTNER_EIGHTHS: u64 = 0x0080008000800080;
 
 const FIRST_COLUMNS: u64 = 0x0004000300020001;
 
 const FOUR_MORE: u64 = 0x0004000400040004;
 
-const EIGHT_MORE: u64 = 0x0008000800080008;
-
-// What takes the partner bytes of four names to 128 and above where they are over n, and the label bytes where they are over the limit.
+// What takes the partner bytes of four names to 128 and above where they are over n, and the label bytes where they are over the limit. (Casts: n
+// is a byte, and std has no From of a usize.)
 #[tactic(auto, unfolding(crate::specs::Layout::label_limit, crate::specs::Lanes::lanes, crate::specs::Lanes::pairs))]
 fn limits_of(n: usize) -> u64
     requires { n ≤ largest }
@@ -32,37 +30,40 @@ fn limits_of(n: usize) -> u64
 }
 
 // Bits where some of four names in a word is bad by itself, a partner byte and a label byte each, with the columns of the names at the partner
-// bytes. A byte is over its limit, a partner is its own column, or a label has no partner: sums and differences of bytes below 128 carry into no other.
+// bytes, and with the limits, computed once in a check: where each call did it, the compiler multiplied by a long constant. A byte is over its limit,
+// a partner is its own column, or a label has no partner: sums and differences of bytes below 128 carry into no other.
 #[tactic(auto, using(crate::proofs::NameLanes::four_names))]
-fn bad_four(w: u64, n: usize, columns: u64) -> u64
-    requires { (n ≤ largest) × Low columns }
+fn bad_four(w: u64, n: usize, limits: u64, columns: u64) -> u64
+    requires { (n ≤ largest) × Low columns × (limits ≡ pairs (λ j. 127 - n) (λ j. 127 - label_limit n)) }
     ensures { not (eqb result 0)
         ≡ some 4 (λ j. bad_name n (label_limit n) (lane 8 columns (j * 2 - 2)) (lane 8 w (j * 2 - 2)) (lane 8 w (j * 2 - 1))) }
 {
     let low = w & SEVENS;
-    let over = w | (low + limits_of(n));
+    let over = w | (low + limits);
     let own = EIGHTHS - (low ^ columns);
     let bare = ((low + SEVENS) >> 8) & (EIGHTHS - low);
     (over & EIGHTHS) | ((own | bare) & PARTNER_EIGHTHS)
 }
 
 // Bits where some of the eight names behind column c, of the row that starts at a place, is bad by itself; behind the row stand at least the
-// yields and the marks.
-fn bad_in_row(image: &[u8], n: usize, at: usize, c: usize, columns: u64) -> u64
-    requires { (2 ≤ n) × (n ≤ largest) × (c < n) × (at + n * 5 ≤ length image.now) × (columns ≡ columns_from c) }
+// yields and the marks. Always copied in: called for each row, it made the check of eight heads 1.4 times as slow.
+#[inline(always)]
+fn bad_in_row(image: &[u8], n: usize, limits: u64, at: usize, c: usize, columns: u64) -> u64
+    requires { (2 ≤ n) × (n ≤ largest) × (c < n) × (at + n * 5 ≤ length image.now) × (columns ≡ columns_from c) × (limits ≡ pairs (λ j. 127 - n) (λ j. 127 - label_limit n)) }
     ensures { not (eqb result 0)
         ≡ some (min (n - c) 8)
         (λ j. bad_name n (label_limit n) (c + j) (get_or image.now (at + (c + j - 1) * 2) 0) (get_or image.now (at + (c + j - 1) * 2 + 1) 0)) }
 {
     let place = at + c + c;
     let left = n - c;
-    let first = bad_four(eight(image, place) & first_lanes(left), n, columns);
     if left <= 4 {
-        return first;
+        return bad_four(eight(image, place) & first_lanes(left), n, limits, columns);
     }
+    let first = bad_four(eight(image, place), n, limits, columns);
     bad_four(
         eight(image, place + 8) & first_lanes(left - 4),
         n,
+        limits,
         columns + FOUR_MORE,
     ) | first
 }
@@ -73,25 +74,22 @@ fn some_in_row(image: &[u8], n: usize, at: usize) -> bool
     ensures { result ≡ some n (λ c. not (eqb (get_or image.now (at + (c - 1) * 2) 0) 0)) }
 {
     let mut found = false;
-    let mut place = at;
-    let mut c = 1usize;
-    while c <= n {
-        found = !(image[place] == 0) | found;
-        place += 2;
-        c += 1;
+    for c in 0..n {
+        found |= image[at + 2 * c] != 0;
     }
     found
 }
 
-// The two bytes at a place as a word, the first the lowest.
+// The two bytes at a place as a word, the first the lowest: only compared, so in the order in which a load has them.
 fn two_at(image: &[u8], at: usize) -> u64
     requires { at + 1 < length image.now }
-    ensures { result ≡ get_or image.now at 0 + get_or image.now (at + 1) 0 * 256 }
+    ensures { (result ≡ get_or image.now at 0 + get_or image.now (at + 1) 0 * 256) × (get_or image.now at 0 < 256) }
 {
-    widen(image[at]) + widen(image[at + 1]) * 256
+    u64::from(u16::from_le_bytes([image[at], image[at + 1]]))
 }
 
-// What the own row says: bits where some row has another name of its stall, and the stalls that it has a name for.
+// What the own row says: bits where some row has another name of its stall, and the stalls that it has a name for. No Option of the stalls: all
+// rows are looked at before anything branches on the bits.
 #[derive(Clone, Copy)]
 pub(crate) struct Own {
     pub bad: u64,
@@ -99,74 +97,57 @@ pub(crate) struct Own {
 }
 
 // The own row, which starts at a place, against the name of each row's own stall.
-pub(crate) fn own_names(image: &[u8], n: usize, own: usize, ownrow: usize) -> Own
-    requires { Framed image.now n own × (ownrow ≡ row_place n own) }
-    ensures { OwnNames image.now n own result.bad result.set }
+pub(crate) fn own_names(x: &Image<'_>, ownrow: usize) -> Own
+    requires { ownrow ≡ row_place x.now.n x.now.own }
+    ensures { OwnNames x.now.bytes.now x.now.n x.now.own result.bad result.set }
 {
+    let image = x.bytes;
+    let n = x.n as usize;
     let mut bad = 0u64;
     let mut set = 0u64;
     let mut one = 1u64;
     let mut here = 4usize;
     let mut there = ownrow;
-    let mut r = 1usize;
-    while r <= n {
-        bad = (two_at(image, here) ^ two_at(image, there)) | bad;
-        set += pick(!(image[there] == 0), one);
+    for _ in 0..n {
+        bad |= two_at(image, here) ^ two_at(image, there);
+        set += pick(image[there] != 0, one);
         one += one;
         here += n + n + 2;
         there += 2;
-        r += 1;
     }
     Own { bad, set }
 }
 
-// Bits where some row has, in its first eight columns, a name that is bad by itself. That it stops at a bad one keeps the compiler from taking two
-// rows at once, for which it would multiply.
-fn bad_first(image: &[u8], n: usize) -> u64
-    requires { Sized image.now n }
-    ensures { not (eqb result 0) ≡ some n (λ r. some (min n 8) (bad_at image.now n r)) }
+// Bits where some row has, in the eight columns behind column C, a name that is bad by itself. That it stops at a bad one keeps the compiler from
+// taking two rows at once, for which it would multiply.
+fn bad_columns<const C: usize>(x: &Image<'_>, limits: u64) -> u64
+    requires { (C < x.now.n) × (limits ≡ pairs (λ j. 127 - x.now.n) (λ j. 127 - label_limit x.now.n)) }
+    ensures { not (eqb result 0) ≡ some x.now.n (λ r. some (min (x.now.n - C) 8) (λ j. bad_at x.now.bytes.now x.now.n r (C + j))) }
 {
+    let n = x.n as usize;
+    let columns = FIRST_COLUMNS + FOUR_ONES * (C as u64);
     let mut bad = 0u64;
     let mut at = 4usize;
-    let mut left = n;
-    while (0 < left) & (bad == 0) {
-        bad = bad_in_row(image, n, at, 0, FIRST_COLUMNS);
+    for _ in 0..n {
+        bad = bad_in_row(x.bytes, n, limits, at, C, columns);
+        if bad != 0 {
+            break;
+        }
         at += n + n;
-        left -= 1;
-    }
-    bad
-}
-
-// Bits where some row has, in the eight columns behind column c, a name that is bad by itself.
-fn bad_behind(image: &[u8], n: usize, c: usize, columns: u64) -> u64
-    requires { Sized image.now n × (c < n) × (columns ≡ columns_from c) }
-    ensures { not (eqb result 0) ≡ some n (λ r. some (min (n - c) 8) (λ j. bad_at image.now n r (c + j))) }
-{
-    let mut bad = 0u64;
-    let mut at = 4usize;
-    let mut left = n;
-    while (0 < left) & (bad == 0) {
-        bad = bad_in_row(image, n, at, c, columns);
-        at += n + n;
-        left -= 1;
     }
     bad
 }
 
 // Bits where some row has a name that is bad by itself.
-fn bad_rows(image: &[u8], n: usize) -> u64
-    requires { Sized image.now n }
-    ensures { not (eqb result 0) ≡ some n (λ r. some n (bad_at image.now n r)) }
+fn bad_rows(x: &Image<'_>) -> u64
+    ensures { not (eqb result 0) ≡ some x.now.n (λ r. some x.now.n (bad_at x.now.bytes.now x.now.n r)) }
 {
-    let mut bad = bad_first(image, n);
-    let mut columns = FIRST_COLUMNS;
-    let mut c = 8usize;
-    while c < n {
-        columns += EIGHT_MORE;
-        bad = bad_behind(image, n, c, columns) | bad;
-        c += 8;
+    let limits = limits_of(x.n as usize);
+    let first = bad_columns::<0>(x, limits);
+    if x.n <= 8 {
+        return first;
     }
-    bad
+    bad_columns::<8>(x, limits) | first
 }
 
 // No partner stands at a place, and a row has a name, or a yield is one.
@@ -176,40 +157,40 @@ fn bad_unheard(image: &[u8], n: usize, there: usize, at: usize, yields: usize) -
         ≡ (eqb (get_or image.now there 0) 0
         && (some n (λ c. not (eqb (get_or image.now (at + (c - 1) * 2) 0) 0)) || not (eqb (word image.now yields) no_yield))) }
 {
-    if !(image[there] == 0) {
+    if image[there] != 0 {
         return false;
     }
     some_in_row(image, n, at) | !is_not_milked(word_at(image, yields))
 }
 
 // Some row of a stall never heard is bad.
-fn bad_unheards(image: &[u8], n: usize, own: usize, ownrow: usize) -> bool
-    requires { Framed image.now n own × (ownrow ≡ row_place n own) }
-    ensures { result ≡ some n (bad_unheard image.now n own) }
+fn bad_unheards(x: &Image<'_>, ownrow: usize) -> bool
+    requires { ownrow ≡ row_place x.now.n x.now.own }
+    ensures { result ≡ some x.now.n (bad_unheard x.now.bytes.now x.now.n x.now.own) }
 {
+    let image = x.bytes;
+    let n = x.n as usize;
     let mut bad = false;
     let mut at = 4usize;
     let mut yields = yields_place(image.len(), n);
     let mut there = ownrow;
-    let mut r = 1usize;
-    while r <= n {
-        bad = bad_unheard(image, n, there, at, yields) | bad;
+    for _ in 0..n {
+        bad |= bad_unheard(image, n, there, at, yields);
         at += n + n;
         yields += 2;
         there += 2;
-        r += 1;
     }
     bad
 }
 
 // Check 5, by what the own row says.
-pub(crate) fn bad_names(image: &[u8], n: usize, own: usize, ownrow: usize, names: Own) -> bool
-    requires { Framed image.now n own × (ownrow ≡ row_place n own) × OwnNames image.now n own names.bad names.set }
-    ensures { result ≡ bad_names image.now n own }
+pub(crate) fn bad_names(x: &Image<'_>, ownrow: usize, names: Own) -> bool
+    requires { (ownrow ≡ row_place x.now.n x.now.own) × OwnNames x.now.bytes.now x.now.n x.now.own names.bad names.set }
+    ensures { result ≡ bad_names x.now.bytes.now x.now.n x.now.own }
 {
-    let bad = !((bad_rows(image, n) | names.bad) == 0);
-    if has_all(names.set, n) {
+    let bad = (bad_rows(x) | names.bad) != 0;
+    if has_all(names.set, x.n as usize) {
         return bad;
     }
-    bad | bad_unheards(image, n, own, ownrow)
+    bad | bad_unheards(x, ownrow)
 }

@@ -1,11 +1,8 @@
 // Order entries of an image, read and written at their places: but for the lengths of images, only here does the code know how many bytes an entry has.
-ghost use Rattle.std.specs.Prelude.{◌≡◌, ◌*◌, ◌%◌, ◌^◌, ◌<◌, get_or};
+ghost use Rattle.std.specs.Prelude.{◌≡◌, ◌+◌, ◌*◌, ◌%◌, ◌^◌, ◌<◌, ◌≤◌, length};
 ghost use Rattle.std.proofs.lemmas.List.Edits.{sets};
 ghost use Rattle.image.specs.Layout.{largest, order_from, order_width, orders_from};
 ghost use Rattle.image.specs.Encode.{order_bytes};
-
-use crate::bytes::less;
-use crate::marks::widen;
 
 // The bytes of an order entry in an image of n stalls.
 #[tactic(auto, unfolding(crate::specs::Layout::order_width))]
@@ -21,22 +18,24 @@ pub fn orders_place(length: usize, n: usize) -> usize
     ensures { result ≡ orders_from length n }
 {
     if order_width(n) == 1 {
-        return less(length, n);
+        return length.saturating_sub(n);
     }
-    less(less(length, n), n)
+    length.saturating_sub(n).saturating_sub(n)
 }
 
-// The byte at a place; past the end of the image there are zeros.
-fn byte_at(image: &[u8], at: usize) -> u64
-    ensures { (result ≡ get_or image.now at 0) × (result < 256) }
+// The order entry at a place where all its bytes stand.
+#[tactic(auto, unfolding(crate::specs::Layout::order_width, crate::specs::Layout::order_from, crate::specs::Layout::number_at))]
+pub(crate) fn whole_order(image: &[u8], n: usize, at: usize) -> u64
+    requires { at + order_width n ≤ length image.now }
+    ensures { (result ≡ order_from image.now n at) × (result < 2 ^ largest) }
 {
-    if image.len() <= at {
-        return 0;
+    if order_width(n) == 1 {
+        return u64::from(image[at]);
     }
-    widen(image[at])
+    u64::from(u16::from_be_bytes([image[at], image[at + 1]]))
 }
 
-// The order entry at a place as a number.
+// The order entry at a place as a number; past the end of the image there are zeros.
 #[tactic(auto, unfolding(crate::specs::Layout::order_width, crate::specs::Layout::order_from, crate::specs::Layout::number_at))]
 pub fn order_at(image: &[u8], n: usize, at: usize) -> u64
     ensures { (result ≡ order_from image.now n at) × (result < 2 ^ largest) }
@@ -44,10 +43,10 @@ pub fn order_at(image: &[u8], n: usize, at: usize) -> u64
     if image.len() <= at {
         return 0;
     }
-    if order_width(n) == 1 {
-        return widen(image[at]);
+    if image.len() - at < order_width(n) {
+        return u64::from(image[at]) * 256;
     }
-    widen(image[at]) * 256 + byte_at(image, at + 1)
+    whole_order(image, n, at)
 }
 
 // An order entry written at a place, as far as it has room there and in its bytes.
@@ -58,12 +57,13 @@ pub fn put_order(image: &mut [u8], n: usize, at: usize, order: u16)
     if image.len() <= at {
         return;
     }
+    let [high, low] = order.to_be_bytes();
     if order_width(n) == 1 {
-        image[at] = (order % 256) as u8;
+        image[at] = low;
         return;
     }
-    image[at] = (order / 256) as u8;
+    image[at] = high;
     if at + 1 < image.len() {
-        image[at + 1] = (order % 256) as u8;
+        image[at + 1] = low;
     }
 }

@@ -3,10 +3,10 @@ ghost use Rattle.std.specs.Prelude.{◌≡◌, ◌+◌, ◌*◌, ◌≤◌, leng
 ghost use Rattle.image.specs.Layout.{largest};
 ghost use Rattle.image.specs.Row.{is_never, tabulate, entry_at, own_row};
 
-use crate::bytes::{row_place, wide};
+use crate::bytes::row_place;
 use crate::{Entry, Name, STALLS, name_from};
 
-// A name is none.
+// A name is none. A function, as number_of and name_from, which docs/ name.
 pub fn is_never(name: Name) -> bool
     ensures { result ≡ is_never name }
 {
@@ -22,14 +22,10 @@ fn row_at(image: &[u8], n: usize, at: usize) -> [Entry; STALLS]
     ensures { result ≡ tabulate largest (entry_at image.now n at) }
 {
     let mut row = [Entry { name: Name::Never }; STALLS];
-    let mut place = at;
-    let mut c = 0usize;
-    while c < n {
+    for c in 0..n {
         row[c] = Entry {
-            name: name_from(image[place], image[place + 1]),
+            name: name_from(image[at + 2 * c], image[at + 2 * c + 1]),
         };
-        place += 2;
-        c += 1;
     }
     row
 }
@@ -39,7 +35,7 @@ fn row_at(image: &[u8], n: usize, at: usize) -> [Entry; STALLS]
 pub fn own_row(image: &[u8], n: u8, own: u8) -> [Entry; STALLS]
     ensures { result ≡ own_row image.now n own }
 {
-    let m = wide(n);
+    let m = usize::from(n);
     let at = row_place(n, own);
     if STALLS < m {
         return [Entry { name: Name::Never }; STALLS];

@@ -1,9 +1,7 @@
 // Words of 64 bits, in which the check looks at four names or four yields at a time.
-ghost use Rattle.std.specs.Prelude.{◌≡◌, min, ◌+◌, ◌-◌, ◌*◌, ◌^◌, ◌<◌, ◌≤◌, length, get_or};
+ghost use Rattle.std.specs.Prelude.{◌≡◌, min, ◌+◌, ◌-◌, ◌*◌, ◌^◌, ◌<◌, ◌≤◌, length, get_or, ◌∷◌, []};
 ghost use Rattle.image.specs.Lanes.{lanes};
 ghost use Rattle.image.specs.Layout.{word};
-
-use crate::marks::widen;
 
 // The seven lower bits of each byte of a word, and the eighth.
 pub(crate) const SEVENS: u64 = 0x7f7f7f7f7f7f7f7f;
@@ -17,20 +15,39 @@ pub(crate) const SIXTEENTHS: u64 = 0x8000800080008000;
 
 pub(crate) const FOUR_ONES: u64 = 0x0001000100010001;
 
-// The eight bytes from a place on, the first the lowest.
+// The eight bytes from a place on.
+fn eight_bytes(image: &[u8], at: usize) -> [u8; 8]
+    requires { at + 8 ≤ length image.now }
+    ensures { result
+        ≡ get_or image.now at 0
+        ∷ get_or image.now (at + 1) 0
+        ∷ get_or image.now (at + 2) 0
+        ∷ get_or image.now (at + 3) 0
+        ∷ get_or image.now (at + 4) 0
+        ∷ get_or image.now (at + 5) 0
+        ∷ get_or image.now (at + 6) 0
+        ∷ get_or image.now (at + 7) 0
+        ∷ [] }
+{
+    [
+        image[at],
+        image[at + 1],
+        image[at + 2],
+        image[at + 3],
+        image[at + 4],
+        image[at + 5],
+        image[at + 6],
+        image[at + 7],
+    ]
+}
+
+// The eight bytes from a place on as a word, the first the lowest.
 #[tactic(auto, unfolding(crate::specs::Lanes::lanes))]
 pub(crate) fn eight(image: &[u8], at: usize) -> u64
     requires { at + 8 ≤ length image.now }
     ensures { result ≡ lanes 8 8 (λ i. get_or image.now (at + i) 0) }
 {
-    widen(image[at])
-        + widen(image[at + 1]) * 256
-        + widen(image[at + 2]) * 65536
-        + widen(image[at + 3]) * 16777216
-        + widen(image[at + 4]) * 4294967296
-        + widen(image[at + 5]) * 1099511627776
-        + widen(image[at + 6]) * 281474976710656
-        + widen(image[at + 7]) * 72057594037927936
+    u64::from_le_bytes(eight_bytes(image, at))
 }
 
 // The four numbers of two bytes, high byte first, from a place on, the last the lowest.
@@ -39,14 +56,7 @@ pub(crate) fn four_numbers(image: &[u8], at: usize) -> u64
     requires { at + 8 ≤ length image.now }
     ensures { result ≡ lanes 16 4 (λ i. word image.now (at + 6 - i * 2)) }
 {
-    widen(image[at + 7])
-        + widen(image[at + 6]) * 256
-        + widen(image[at + 5]) * 65536
-        + widen(image[at + 4]) * 16777216
-        + widen(image[at + 3]) * 4294967296
-        + widen(image[at + 2]) * 1099511627776
-        + widen(image[at + 1]) * 281474976710656
-        + widen(image[at]) * 72057594037927936
+    u64::from_be_bytes(eight_bytes(image, at))
 }
 
 // All bits of the first so many lanes of four.
@@ -56,7 +66,7 @@ pub(crate) fn first_lanes(count: usize) -> u64
     if count < 4 {
         return (1u64 << (16 * count)) - 1;
     }
-    18446744073709551615
+    u64::MAX
 }
 
 // A number in each of four lanes.

@@ -17,7 +17,7 @@ use crate::words::{FIFTEENS, FOUR_ONES, SIXTEENTHS, first_lanes, four_numbers};
 pub fn is_not_milked(x: usize) -> bool
     ensures { result ≡ eqb x no_yield }
 {
-    x == (Head::NO_YIELD as usize)
+    x == usize::from(Head::NO_YIELD)
 }
 
 // A number that a yield in an image may be.
@@ -25,11 +25,11 @@ pub fn is_not_milked(x: usize) -> bool
 fn is_yield(x: usize) -> bool
     ensures { result ≡ is_yield x }
 {
-    (x <= (Head::YIELD_LIMIT as usize)) | is_not_milked(x)
+    (x <= usize::from(Head::YIELD_LIMIT)) | is_not_milked(x)
 }
 
 // What takes the lower fifteen bits of a number to the sixteenth where they are over the limit; and, where that is set already, where the
-// number is the one for not milked.
+// number is the one for not milked. (Casts: a constant calls no From.)
 const OVER: u64 = (0x7fff - Head::YIELD_LIMIT as u64) * FOUR_ONES;
 
 const NONE: u64 = (0x10000 - Head::NO_YIELD as u64) * FOUR_ONES;
@@ -42,10 +42,12 @@ fn bad_four(w: u64) -> bool
     let low = w & FIFTEENS;
     let over = (w | (low + OVER)) & SIXTEENTHS;
     let none = (w & (low + NONE)) & SIXTEENTHS;
-    !(over == none)
+    over != none
 }
 
-// Some of so many numbers from a place on, and of those behind them to a whole four, is none that a yield may be.
+// Some of so many numbers from a place on, and of those behind them to a whole four, is none that a yield may be. Counted by hand: with
+// `for seen in (0..count).step_by(4)`, which proves too, the check of two to eight heads takes 1.04 to 1.08 of the time of the older code, as it stands
+// 0.99 to 1.05.
 fn bad_fours(image: &[u8], at: usize, count: usize) -> bool
     requires { (count ≤ largest) × (at + count * 2 + 6 ≤ length image.now) }
     ensures { result ≡ some (fours count) (λ s. not (is_yield (word image.now (at + (s - 1) * 2)))) }
@@ -88,12 +90,9 @@ pub(crate) fn put_no_yields(image: &mut [u8], at: usize, count: usize)
     requires { at + count * 2 ≤ length image.old }
     ensures { image.new ≡ take at image.old ++ each count (λ s. word_bytes no_yield) ++ drop (at + count * 2) image.old }
 {
-    let mut place = at;
-    let mut c = 0usize;
-    while c < count {
-        image[place] = (Head::NO_YIELD / 256) as u8;
-        image[place + 1] = (Head::NO_YIELD % 256) as u8;
-        place += 2;
-        c += 1;
+    let [high, low] = Head::NO_YIELD.to_be_bytes();
+    for c in 0..count {
+        image[at + 2 * c] = high;
+        image[at + 2 * c + 1] = low;
     }
 }

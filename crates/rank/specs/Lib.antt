@@ -2,5 +2,3 @@
 pub mod Order
 pub mod Theory
 pub mod Examples
--- What the functions say to each other. No caller sees this.
-pub mod Turns

@@ -1,30 +1,16 @@
 -- Check 6, by the set of heard stalls.
 use Rattle.std.proofs.Common.{ℕ, ◌≡◌, ◌+◌, ◌-◌, ◌*◌, ◌%◌, ◌^◌, ◌<◌, ◌≤◌, List, Bool, not, eqb, refl, ap, ◌∙◌, arith}
-use native.Mathlib.Decide.{dec_lt, ℕ_discrete}
 use lib.Pow.{shl_exact}
 use Rattle.image.specs.Stalls.{some}
-use Rattle.image.specs.Layout.{order_from, order_width, orders_place, image_length}
+use Rattle.image.specs.Layout.{order_from}
 use Rattle.image.specs.Check.{bad_order, bad_marks}
-use Rattle.image.proofs.Search.{Looked, looked_start, looked_next, looked_as, looked_end}
+use Rattle.image.proofs.Search.{Looked, looked_start, looked_more, looked_as, looked_end}
 use Rattle.image.proofs.Places.{orders_from_lem}
 use Rattle.image.proofs.Lanes.{or_test}
 use Rattle.image.proofs.Gather.{bit_start, bit_next}
-use Rattle.image.proofs.OrderEntry.{order_wide, order_within}
+use Rattle.image.proofs.OrderEntry.{entry_within}
 use Rattle.image.proofs.OrderTest.{order_test}
 use Rattle.image.proofs.marks.bad_marks.Goals as goal
-
--- such a place is before the end of the image exactly as long as a stall is left
-stall_left : (n at stall : ℕ) {long : ℕ} → long ≡ image_length n → at ≡ orders_place n + (stall - 1) * order_width n → stall ≤ n + 1 → at < long → stall ≤ n
-stall_left n at stall e p b l = elim (ℕ_discrete (stall - 1) n) [
-  | yes i ↦ absurd (omega (arith, ap (λ k. k * order_width n) i))
-  | no i ↦ omega arith
-]
-
-none_left : (n at stall : ℕ) {long : ℕ} → long ≡ image_length n → at ≡ orders_place n + (stall - 1) * order_width n → 1 ≤ stall → long ≤ at → n < stall
-none_left n at stall e p a l = elim (dec_lt n stall) [
-  | yes i ↦ i
-  | no i ↦ absurd (omega (arith, order_within {n = n} {r = stall} a (omega arith), order_wide n))
-]
 
 -- the first entry, and the next one, as the code comes to them
 looked_at : {n width place at s : ℕ} {found : Bool} {f : ℕ → Bool} → at ≡ place → Looked n width place place s found f → Looked n width place at s found f
@@ -40,32 +26,28 @@ marks_end s n own e = e
 one_shifted : (k : ℕ) → k < 64 → (1 * 2 ^ k) % 2 ^ 64 ≡ 2 ^ k
 one_shifted k l = shl_exact {a = 1} 1 k 64 (omega arith) (omega arith) ∙ omega arith
 
-pub loop-at-init : goal.loop-at-init
-loop-at-init c =
-    record { stall = 1; looked = looked_at (orders_from_lem c.requires.0.long refl c.orders_place-at.ensures) (looked_start _); bit = bit_start }
+pub loop-init : goal.loop-init
+loop-init c = (looked_at (orders_from_lem c.args.x.now.framed.long refl c.orders_place-at.ensures) (looked_start _), bit_start)
 
-pub loop-at-preserved : goal.loop-at-preserved
-loop-at-preserved c =
+pub loop-preserved : goal.loop-preserved
+loop-preserved c =
     let a = c.args in
-    let p = c.requires in
-    let l = c.loop-at in
+    let f = a.x.now.framed in
+    let l = c.loop in
     let i = l.invariant in
-    let left = stall_left a.n l.at i.stall p.0.long i.looked.stands i.looked.to c.loop-at-test.true in
-    record {
-      stall = i.stall + 1;
-      looked = looked_as (or_test c.bad_order-bad.result l.bad)
+    let left : l.counter + 1 ≤ a.x.now.n = omega (arith, c.loop-test.true) in (
+      looked_as (or_test l.bad c.bad_order-bad.result)
           (looked_on l.at c.order_width-width.ensures
-          (looked_next i.looked left (not (eqb c.bad_order-bad.result 0))
+          (looked_more i.0 left (not (eqb c.bad_order-bad.result 0))
           (c.bad_order-bad.ensures
-          ∙ order_test a.image.now a.n a.own i.stall c.order_at.result l.one _ a.set i.looked.from left p.0.own_from
-          c.order_at.ensures.1 (c.order_at.ensures.0 ∙ ap (order_from a.image.now a.n) i.looked.stands) p.1 i.bit.is
-          (one_shifted (a.own - 1) (omega (arith, p.0.own_to, p.0.n_to))))));
-      bit = bit_next i.bit;
-    }
+          ∙ order_test a.x.now.bytes.now a.x.now.n a.x.now.own (l.counter + 1) c.whole_order.result l.one _ a.set i.0.from left f.own_from
+          c.whole_order.ensures.1 (c.whole_order.ensures.0 ∙ ap (order_from a.x.now.bytes.now a.x.now.n) i.0.stands) c.requires i.1.is
+          (one_shifted (a.x.now.own - 1) (omega (arith, f.own_to, f.n_to)))))),
+      bit_next i.1,
+    )
 
 pub returns : goal.returns
 returns c =
     let a = c.args in
-    let l = c.loop-at in
-    let i = l.invariant in
-    marks_end a.image.now a.n a.own (looked_end i.looked (none_left a.n l.at i.stall c.requires.0.long i.looked.stands i.looked.from c.loop-at-test.false))
+    let l = c.loop in
+    marks_end a.x.now.bytes.now a.x.now.n a.x.now.own (looked_end l.invariant.0 (omega (arith, c.loop-test.false)))

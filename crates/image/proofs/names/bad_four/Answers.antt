@@ -8,9 +8,9 @@ use Rattle.image.proofs.names.bad_four.Goals as goal
 pub overflow_add-over : goal.overflow_add-over
 overflow_add-over c =
     let a = c.args in
-    omega (arith, c.limits_of.ensures, over_in a.w a.n (label_limit a.n) a.columns (omega arith) (omega arith) (omega (arith, limit_bits a.n c.requires.0)) c.requires.1)
+    omega (arith, c.requires.2, over_in a.w a.n (label_limit a.n) a.columns (omega arith) (omega arith) (omega (arith, limit_bits a.n c.requires.0)) c.requires.1)
 
 pub returns : goal.returns
 returns c =
     let a = c.args in
-    rw c.limits_of.ensures (four_test a.w a.n (label_limit a.n) a.columns (omega arith) (omega arith) (omega (arith, limit_bits a.n c.requires.0)) c.requires.1)
+    rw c.requires.2 (four_test a.w a.n (label_limit a.n) a.columns (omega arith) (omega arith) (omega (arith, limit_bits a.n c.requires.0)) c.requires.1)

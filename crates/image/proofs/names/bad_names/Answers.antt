@@ -47,12 +47,12 @@ module _ (s : List ℕ) (n own : ℕ) where
 pub returns-then-has_all : goal.returns-then-has_all
 returns-then-has_all c =
     let a = c.args in
-    let own = c.requires.2 in
+    let own = c.requires.1 in
     let rows = c.bad_rows in
-    all_heard a.image.now a.n a.own (found a.image.now a.n a.own rows.result a.names.bad rows.ensures own.0)
-    (sym (all_is a.image.now a.n a.own own.1 c.has_all.ensures) ∙ c.if-has_all.true)
+    all_heard a.x.now.bytes.now a.x.now.n a.x.now.own (found a.x.now.bytes.now a.x.now.n a.x.now.own rows.result a.names.bad rows.ensures own.0)
+    (sym (all_is a.x.now.bytes.now a.x.now.n a.x.now.own own.1 c.has_all.ensures) ∙ c.if-has_all.true)
 
 pub returns : goal.returns
 returns c =
     let a = c.args in
-    both a.image.now a.n a.own (found a.image.now a.n a.own c.bad_rows.result a.names.bad c.bad_rows.ensures c.requires.2.0) c.bad_unheards.ensures
+    both a.x.now.bytes.now a.x.now.n a.x.now.own (found a.x.now.bytes.now a.x.now.n a.x.now.own c.bad_rows.result a.names.bad c.bad_rows.ensures c.requires.1.0) c.bad_unheards.ensures

@@ -1,12 +1,11 @@
--- Some row has a bad name: the columns eight at a time.
-use Rattle.std.proofs.Common.{ℕ, ◌≡◌, ◌+◌, ◌-◌, ◌≤◌, min, List, Bool, ◌||◌, sym, ap, ◌∙◌, arith}
+-- Some row has a bad name: in its first eight columns, or behind them.
+use Rattle.std.proofs.Common.{ℕ, ◌≡◌, ◌+◌, ◌-◌, min, List, Bool, ◌||◌, ap, ◌∙◌, arith}
 use mathlib.Core.Path.{ap₂}
 use Rattle.image.specs.Stalls.{some}
-use Rattle.image.specs.Columns.{columns_from, bad_at}
+use Rattle.image.specs.Columns.{bad_at}
 use Rattle.image.proofs.Search.{some_agree, some_or}
 use Rattle.image.proofs.Windows.{some_split}
 use Rattle.image.proofs.Lanes.{or_test}
-use Rattle.image.proofs.NameLanes.{first_columns, columns_low, columns_on}
 use Rattle.image.proofs.names.bad_rows.Goals as goal
 
 -- in the first m columns
@@ -18,35 +17,23 @@ more_columns : (s : List ℕ) (n m k : ℕ) → (some n (λ r. some k (λ j. bad
 more_columns s n m k =
     some_or n (λ r. some k (λ j. bad_at s n r (m + j))) (λ r. some m (bad_at s n r)) ∙ some_agree n _ _ (λ r a b. some_split m k (bad_at s n r))
 
--- eight columns on
-on_eight : (c : ℕ) {x : ℕ} → 8 ≤ c → x ≡ columns_from (c - 8) → x + 0x0008000800080008 ≡ columns_from c
-on_eight c l e = ap (λ y. y + 0x0008000800080008) e ∙ columns_on (c - 8) 8 ∙ (let i : c - 8 + 8 ≡ c = omega arith in ap columns_from i)
+-- those behind none
+behind_none : (s : List ℕ) (n m : ℕ) → min (n - 0) 8 ≡ m → some n (λ r. some (min (n - 0) 8) (λ j. bad_at s n r (0 + j))) ≡ bad_in s n m
+behind_none s n m e =
+    ap (λ k. some n (λ r. some k (λ j. bad_at s n r (0 + j)))) e
+    ∙ some_agree n _ _ (λ r p q. some_agree m _ (bad_at s n r) (λ j a b. let z : 0 + j ≡ j = omega arith in ap (bad_at s n r) z))
 
-pub loop-c-init : goal.loop-c-init
-loop-c-init c = (omega arith, omega (arith, c.requires.n_from), first_columns, c.bad_first-bad.ensures)
+pub returns-then-x-le8 : goal.returns-then-x-le8
+returns-then-x-le8 c =
+    let x = c.args.x.now in
+    c.bad_columns-first.ensures ∙ behind_none x.bytes.now x.n x.n (omega (arith, c.if-x-le8.true))
 
-pub overflow_add-columns : goal.overflow_add-columns
-overflow_add-columns c =
-    let i = c.loop-c.invariant in
-    rw (on_eight c.loop-c.c i.0 i.2) (omega (arith, (columns_low c.loop-c.c (omega (arith, c.loop-c-test.true, c.requires.n_to))).word))
-
-pub bad_behind-bad-requires : goal.bad_behind-bad-requires
-bad_behind-bad-requires c = let i = c.loop-c.invariant in (c.requires, c.loop-c-test.true, on_eight c.loop-c.c i.0 i.2)
-
-pub loop-c-preserved : goal.loop-c-preserved
-loop-c-preserved c =
-    let a = c.args in
-    let l = c.loop-c in
-    let i = l.invariant in
-    let t = c.loop-c-test.true in
-    let m : min a.n l.c ≡ l.c = omega (arith, t) in
-    let k : l.c + min (a.n - l.c) 8 ≡ min a.n (l.c + 8) = omega (arith, t) in
-    let e : l.c + 8 - 8 ≡ l.c = omega arith in (
-      omega arith,
-      omega (arith, t),
-      on_eight l.c i.0 i.2 ∙ ap columns_from (sym e),
-      or_test c.bad_behind-bad.result l.bad
-          ∙ ap₂ ◌||◌ c.bad_behind-bad.ensures (i.3 ∙ ap (bad_in a.image.now a.n) m)
-          ∙ more_columns a.image.now a.n l.c (min (a.n - l.c) 8)
-          ∙ ap (bad_in a.image.now a.n) k,
-    )
+pub returns : goal.returns
+returns c =
+    let n = c.args.x.now.n in
+    let s = c.args.x.now.bytes.now in
+    let k : 8 + min (n - 8) 8 ≡ n = omega (arith, c.if-x-le8.false, c.args.x.now.framed.n_to) in
+    or_test c.bad_columns.result c.bad_columns-first.result
+    ∙ ap₂ ◌||◌ c.bad_columns.ensures (c.bad_columns-first.ensures ∙ behind_none s n 8 (omega (arith, c.if-x-le8.false)))
+    ∙ more_columns s n 8 (min (n - 8) 8)
+    ∙ ap (bad_in s n) k

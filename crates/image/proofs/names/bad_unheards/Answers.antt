@@ -5,7 +5,7 @@ use mathlib.Core.Bool.{not-not}
 use Rattle.image.specs.Stalls.{some}
 use Rattle.image.specs.Layout.{no_yield, row_place, yield_place, word, partner_at, heard_at}
 use Rattle.image.specs.Check.{bad_unheard}
-use Rattle.image.proofs.Search.{looked_start, looked_next}
+use Rattle.image.proofs.Search.{looked_start, looked_more}
 use Rattle.image.proofs.Places.{yields_from_lem}
 use Rattle.image.proofs.names.bad_unheards.Goals as goal
 
@@ -19,16 +19,17 @@ unheard_test s n own r at there yields e a t y =
     (ap (λ k. eqb (get_or s k 0) 0) t ∙ sym (not-not (eqb (partner_at s n own r) 0)))
     (ap₂ (λ k l. some n (λ c. not (eqb (get_or s (k + (c - 1) * 2) 0) 0)) || not (eqb (word s l) no_yield)) a y)
 
-pub loop-r-init : goal.loop-r-init
-loop-r-init c = (looked_start _, yields_from_lem c.requires.0.long refl c.yields_place-yields.ensures ∙ omega arith, omega arith)
+pub loop-init : goal.loop-init
+loop-init c = (looked_start _, yields_from_lem c.args.x.now.framed.long refl c.yields_place-yields.ensures ∙ omega arith, omega arith)
 
-pub loop-r-preserved : goal.loop-r-preserved
-loop-r-preserved c =
+pub loop-preserved : goal.loop-preserved
+loop-preserved c =
     let a = c.args in
-    let l = c.loop-r in
-    let i = l.invariant in (
-      looked_next i.0 c.loop-r-test.true c.bad_unheard-bad.result
-          (unheard_test a.image.now a.n a.own l.r l.at l.there l.yields c.bad_unheard-bad.ensures i.0.stands (i.2 ∙ ap (λ k. k + (l.r - 1) * 2) c.requires.1) i.1),
+    let l = c.loop in
+    let i = l.invariant in
+    let k : l.counter ≡ l.counter + 1 - 1 = omega arith in (
+      looked_more i.0 (omega (arith, c.loop-test.true)) c.bad_unheard-bad.result
+          (unheard_test a.x.now.bytes.now a.x.now.n a.x.now.own (l.counter + 1) l.at l.there l.yields c.bad_unheard-bad.ensures i.0.stands (i.2 ∙ ap₂ (λ x y. x + y * 2) c.requires k) i.1),
       omega (arith, i.0.from),
       omega (arith, i.0.from),
     )

@@ -24,14 +24,11 @@ entry_past s n at c l = rw (lt-leb c n l)
 pub loop-c-preserved : goal.loop-c-preserved
 loop-c-preserved c =
     let a = c.args in
-    let l = c.loop-c in (
-      omega arith,
-      omega arith,
-      filled_next (record { name = c.name_from.result }) l.invariant.2 (omega arith)
-          (entry_next a.image.now a.n a.at l.c l.place _ c.loop-c-test.true l.invariant.1 c.name_from.ensures),
-    )
+    let l = c.loop-c in
+    filled_next (record { name = c.name_from.result }) l.invariant (omega arith)
+    (entry_next a.image.now a.n a.at l.c (a.at + 2 * l.c) _ c.loop-c-test.true (omega arith) c.name_from.ensures)
 
 pub returns : goal.returns
 returns c =
     let a = c.args in
-    filled_end c.loop-c.invariant.2 (omega arith) (λ k l. entry_past a.image.now a.n a.at k (omega arith))
+    filled_end c.loop-c.invariant (omega arith) (λ k l. entry_past a.image.now a.n a.at k (omega arith))

@@ -1,12 +1,8 @@
 -- Yields of heads that were not milked, written one after the other.
-use Rattle.std.proofs.Common.{◌≡◌, ◌+◌, ◌-◌, ◌*◌, ◌≤◌, length}
+use Rattle.std.proofs.Common.{◌≡◌, length}
 use Rattle.image.proofs.YieldRange.{no_yield_bytes}
 use Rattle.image.proofs.Blocks.{blocks}
 use Rattle.image.proofs.yields.put_no_yields.Given as goal
 
 abbrev pub invariant-loop-c : goal.invariant-loop-c
-invariant-loop-c l =
-    (l.c ≤ l.count) × (l.place ≡ l.fn.at + l.c * 2) × (l.image ≡ blocks l.initial.image l.fn.at 2 no_yield_bytes l.c) × (length l.image ≡ length l.initial.image)
-
-abbrev pub decreases-loop-c : goal.decreases-loop-c
-decreases-loop-c l = l.count - l.c
+invariant-loop-c l = (l.image ≡ blocks l.initial.image l.at 2 no_yield_bytes l.c) × (length l.image ≡ length l.initial.image)
