@@ -4,12 +4,9 @@ use mathlib.Core.Path.{◌≡◌, sym, ap, ◌∙◌}
 use mathlib.Core.List.{List}
 use native.Mathlib.Omega.{arith}
 use native.Mathlib.Decide.{ℕ_discrete}
-use lib.ListN.{length, get_or, set, length-set}
+use lib.ListN.{get_or, set, length-set}
 use lib.Seq.{get_or-set_same, get_or-set_other}
 use Rattle.merge.specs.ByStall.{ByStall}
-
-pub by_stall_start : {A : Type 0} {d : A} {width : ℕ} {f : ℕ → A} {out : List A} → length out ≡ width → ByStall d width 0 f out
-by_stall_start e = record { long = e; right = λ r a b. absurd (omega arith) }
 
 pub by_stall_next : {A : Type 0} {d : A} {width m : ℕ} {f : ℕ → A} {out : List A} → ByStall d width m f out → m < width → (x : A) → x ≡ f (suc m)
     → ByStall d width (m + 1) f (set out m x)
@@ -23,6 +20,3 @@ by_stall_next {d = d} {m = m} {f} {out} w l x e =
         | no i ↦ get_or-set_other out m (r - 1) x d (λ j. omega arith) ∙ w.right r a (omega arith)
       ];
     }
-
-pub by_stall_end : {A : Type 0} {d : A} {width m : ℕ} {f : ℕ → A} {out : List A} (n : ℕ) → m ≡ n → ByStall d width m f out → ByStall d width n f out
-by_stall_end {d = d} {width} {f = f} {out} n e w = rw e at w

@@ -2,6 +2,5 @@
 pub mod AfterMeeting
 pub mod MeetingWritten
 pub mod Together
-pub mod MeetingCalls
 pub mod AfterLaws
 pub mod Outcomes

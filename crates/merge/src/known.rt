@@ -2,37 +2,29 @@
 ghost use Rattle.std.specs.Prelude.{◌≡◌, ◌+◌, ◌*◌, ◌≤◌, ◌<◌, not, eqb, length};
 ghost use Rattle.std.specs.Int.Bits.{bit_and, bit_or};
 ghost use Rattle.image.specs.Stalls.{bits, without};
-ghost use Rattle.image.specs.Layout.{largest, order_at};
+ghost use Rattle.image.specs.Layout.{order_at, row_place};
 ghost use Rattle.image.specs.Encode.{table_of};
-ghost use Rattle.image.specs.Frame.{Sized, Framed};
 ghost use Rattle.image.specs.Row.{is_never};
 ghost use Rattle.merge.specs.Verdict.{same_name};
 ghost use Rattle.merge.specs.Views.{partner_in, label_in, name_in, row_name, across, shared, Views, Decides};
 
 use crate::stalls::{all_stalls, without};
-use crate::{Decided, Parties, Seen, View};
-use image::bytes::{row_place, wide};
+use crate::{Both, Decided, Seen, View};
+use image::bytes::row_place;
 use image::marks::pick;
 use image::orders::{order_at, order_width, orders_place};
-use image::{Entry, Name};
+use image::{Entry, Image, Meet, Name};
 
-// The partner of a name, 0 where there is none.
-fn partner_of(x: Name) -> u8
-    ensures { result ≡ partner_in x }
+// The partner and the label of a name, 0 both where there is none.
+fn meet_of(x: Name) -> Meet
+    ensures { (result.partner ≡ partner_in x) × (result.label ≡ label_in x) }
 {
     match x {
-        Name::Never => 0,
-        Name::With(m) => m.partner,
-    }
-}
-
-// The label of a name, 0 where there is none.
-fn label_of(x: Name) -> u8
-    ensures { result ≡ label_in x }
-{
-    match x {
-        Name::Never => 0,
-        Name::With(m) => m.label,
+        Name::Never => Meet {
+            partner: 0,
+            label: 0,
+        },
+        Name::With(m) => m,
     }
 }
 
@@ -51,13 +43,14 @@ fn across(n: u8, d: u8) -> usize
     ensures { result ≡ across n d }
 {
     if (1 <= d) & (d <= n) {
-        (wide(d) - 1) * 2
+        (usize::from(d) - 1) * 2
     } else {
         0
     }
 }
 
 // Column c of an own row, at a, against the other own row, which starts at row and has its column c at b: the meeting can stand there only in column c and in its partner's.
+// Names are compared by their two numbers, all of them, with no branch between: by the derived `==` sixteen names took 57 ns in place of 36.
 fn column(mine: &[u8], a: usize, theirs: &[u8], b: usize, row: usize, n: u8, c: u8) -> Seen
     requires { (a + 1 < length mine.now) × (b + 1 < length theirs.now) × (row + n * 2 ≤ length theirs.now) × (1 ≤ n) }
     ensures { (result.common ≡ shared n c (name_in mine.now a) (name_in theirs.now b) (row_name theirs.now row))
@@ -65,16 +58,14 @@ fn column(mine: &[u8], a: usize, theirs: &[u8], b: usize, row: usize, n: u8, c: 
         × (result.same ≡ same_name (name_in mine.now a) (name_in theirs.now b)) }
 {
     let own = entry_at(mine, a);
-    let here = entry_at(theirs, b);
-    let name = own.name;
-    let other = here.name;
-    let partner = partner_of(name);
-    let label = label_of(name);
-    let there = entry_at(theirs, row + across(n, partner));
-    let crossing = there.name;
-    let heard = !(partner == 0);
-    let same = (partner == partner_of(other)) & (label == label_of(other));
-    let crossed = (partner <= n) & ((c == partner_of(crossing)) & (label == label_of(crossing)));
+    let other = entry_at(theirs, b);
+    let x = meet_of(own.name);
+    let y = meet_of(other.name);
+    let crossing = entry_at(theirs, row + across(n, x.partner));
+    let z = meet_of(crossing.name);
+    let heard = x.partner != 0;
+    let same = (x.partner == y.partner) & (x.label == y.label);
+    let crossed = (x.partner <= n) & ((c == z.partner) & (x.label == z.label));
     Seen {
         common: heard & (same | crossed),
         heard,
@@ -82,27 +73,27 @@ fn column(mine: &[u8], a: usize, theirs: &[u8], b: usize, row: usize, n: u8, c: 
     }
 }
 
-// One own row, which starts at a, against the other, which starts at b.
-fn view(mine: &[u8], a: usize, theirs: &[u8], b: usize, n: u8) -> View
-    requires { (n ≤ largest) × (a + n * 2 ≤ length mine.now) × (b + n * 2 ≤ length theirs.now) }
-    ensures { Views n (row_name mine.now a) (row_name theirs.now b) result }
+// One own row against the other.
+fn view(mine: &Image<'_>, theirs: &Image<'_>) -> View
+    requires { mine.now.n ≡ theirs.now.n }
+    ensures { Views mine.now.n (row_name mine.now.bytes.now (row_place mine.now.n mine.now.own)) (row_name theirs.now.bytes.now (row_place mine.now.n theirs.now.own)) result }
 {
+    let n = mine.n;
+    let row = row_place(n, theirs.own);
     let mut common = 0u64;
     let mut heard = 0u64;
     let mut same = 0u64;
     let mut one = 1u64;
-    let mut here = a;
-    let mut there = b;
-    let mut c = 1u8;
-    while c <= n {
-        let x = column(mine, here, theirs, there, b, n, c);
+    let mut here = row_place(n, mine.own);
+    let mut there = row;
+    for c in 0..n {
+        let x = column(mine.bytes, here, theirs.bytes, there, row, n, c + 1);
         common += pick(x.common, one);
         heard += pick(x.heard, one);
         same += pick(x.same, one);
         one += one;
         here += 2;
         there += 2;
-        c += 1;
     }
     View {
         common,
@@ -112,20 +103,18 @@ fn view(mine: &[u8], a: usize, theirs: &[u8], b: usize, n: u8) -> View
 }
 
 // The stalls with an order mark to one of a set.
-fn marked(image: &[u8], n: usize, set: u64) -> u64
-    requires { Sized image.now n }
-    ensures { result ≡ bits n (λ r. not (eqb (bit_and (order_at image.now n r) set) 0)) }
+fn marked(x: &Image<'_>, set: u64) -> u64
+    ensures { result ≡ bits x.now.n (λ r. not (eqb (bit_and (order_at x.now.bytes.now x.now.n r) set) 0)) }
 {
+    let n = usize::from(x.n);
+    let width = order_width(n);
     let mut out = 0u64;
     let mut one = 1u64;
-    let width = order_width(n);
-    let mut at = orders_place(image.len(), n);
-    let mut r = 1usize;
-    while r <= n {
-        out += pick(!((order_at(image, n, at) & set) == 0), one);
+    let mut at = orders_place(x.bytes.len(), n);
+    for _ in 0..n {
+        out += pick(order_at(x.bytes, n, at) & set != 0, one);
         one += one;
         at += width;
-        r += 1;
     }
     out
 }
@@ -147,17 +136,13 @@ fn decided(all: u64, first: u64, second: u64, x: View, y: View) -> Decided
 }
 
 // The verdicts of a meeting.
-pub(crate) fn verdicts(first: &[u8], second: &[u8], x: Parties) -> Decided
-    requires { Framed first.now x.n x.p × Framed second.now x.n x.q }
-    ensures { Decides x.n x.p (table_of first.now x.n) x.q (table_of second.now x.n) result }
+pub(crate) fn verdicts(x: &Both<'_>) -> Decided
+    ensures { Decides x.now.first.n x.now.first.own (table_of x.now.first.bytes.now x.now.first.n) x.now.second.own (table_of x.now.second.bytes.now x.now.first.n) result }
 {
-    let m = wide(x.n);
-    let mine = row_place(x.n, x.p);
-    let theirs = row_place(x.n, x.q);
-    let a = view(first, mine, second, theirs, x.n);
-    let b = view(second, theirs, first, mine, x.n);
-    let all = all_stalls(x.n);
-    let left = without(all, a.heard) | marked(first, m, a.common);
-    let right = without(all, b.heard) | marked(second, m, b.common);
+    let a = view(&x.first, &x.second);
+    let b = view(&x.second, &x.first);
+    let all = all_stalls(x.first.n);
+    let left = without(all, a.heard) | marked(&x.first, a.common);
+    let right = without(all, b.heard) | marked(&x.second, b.common);
     decided(all, left, right, a, b)
 }

@@ -3,12 +3,11 @@ ghost use Rattle.std.specs.Prelude.{◌≡◌, ◌≤◌, ◌||◌};
 ghost use Rattle.image.specs.Stalls.{some};
 ghost use Rattle.image.specs.Layout.{name_from};
 ghost use Rattle.image.specs.Encode.{table_of};
-ghost use Rattle.image.specs.Frame.{Sized, Framed};
 ghost use Rattle.merge.specs.Label.{is_meeting, row_has, lowest_from, new_label};
 ghost use Rattle.merge.specs.LabelSet.{label_set, has_label, name_has, Column};
 
-use crate::Parties;
-use image::bytes::wide;
+use crate::Both;
+use image::Image;
 use image::marks::{bit_of, pick};
 
 // The lowest label that a set has not; 64 where it has all.
@@ -34,32 +33,32 @@ fn row_labels(image: &[u8], row: usize, p: u8, q: u8) -> u64
     requires { Column image.now row p × Column image.now row q }
     ensures { result ≡ label_set (λ k. name_has image.now row p q k || name_has image.now row q p k) }
 {
-    let left = row + (wide(p) - 1) * 2;
-    let right = row + (wide(q) - 1) * 2;
+    let left = row + (usize::from(p) - 1) * 2;
+    let right = row + (usize::from(q) - 1) * 2;
     label_of(image[left], image[left + 1], q) | label_of(image[right], image[right + 1], p)
 }
 
 // The labels of the names of the pair p, q in an image.
-fn used_labels(image: &[u8], n: usize, p: u8, q: u8) -> u64
-    requires { Sized image.now n × (1 ≤ p) × (p ≤ n) × (1 ≤ q) × (q ≤ n) }
-    ensures { result ≡ label_set (λ k. some n (row_has p q (table_of image.now n) k)) }
+fn used_labels(x: &Image<'_>, p: u8, q: u8) -> u64
+    requires { (1 ≤ p) × (p ≤ x.now.n) × (1 ≤ q) × (q ≤ x.now.n) }
+    ensures { result ≡ label_set (λ k. some x.now.n (row_has p q (table_of x.now.bytes.now x.now.n) k)) }
 {
+    let n = usize::from(x.n);
     let mut set = 0u64;
     let mut row = 4usize;
-    let mut r = 1usize;
-    while r <= n {
-        set = row_labels(image, row, p, q) | set;
+    for _ in 0..n {
+        set |= row_labels(x.bytes, row, p, q);
         row += n + n;
-        r += 1;
     }
     set
 }
 
 // The label of a meeting, by both images.
-pub(crate) fn new_label(first: &[u8], second: &[u8], x: Parties) -> u8
-    requires { Framed first.now x.n x.p × Framed second.now x.n x.q }
-    ensures { result ≡ new_label x.n x.p (table_of first.now x.n) x.q (table_of second.now x.n) }
+pub(crate) fn new_label(x: &Both<'_>) -> u8
+    ensures { result ≡ new_label x.now.first.n x.now.first.own (table_of x.now.first.bytes.now x.now.first.n) x.now.second.own (table_of x.now.second.bytes.now x.now.first.n) }
 {
-    let m = wide(x.n);
-    lowest_free(used_labels(first, m, x.p, x.q) | used_labels(second, m, x.p, x.q)) as u8
+    let p = x.first.own;
+    let q = x.second.own;
+    // No From makes a number narrower, and this one is at most 62.
+    lowest_free(used_labels(&x.first, p, q) | used_labels(&x.second, p, q)) as u8
 }

@@ -1,6 +1,10 @@
 // A meeting of two images: what is known, the verdicts, the label, and what both hold afterwards, built by value and then written.
 #![tactic(auto)]
 
+ghost use Rattle.std.specs.Prelude.{◌≡◌};
+
+use image::Image;
+
 pub mod known;
 pub mod label;
 pub mod meeting;
@@ -11,16 +15,16 @@ pub mod stalls;
 pub mod write;
 pub mod yields;
 
-// Who meets: of n stalls, the first head's and the second's.
+// Two heads of one parlour that meet, as what is read.
 #[derive(Clone, Copy)]
-pub struct Parties {
-    pub n: u8,
-    pub p: u8,
-    pub q: u8,
+pub struct Both<'a> {
+    pub first: Image<'a>,
+    pub second: Image<'a>,
+    pub ghost one_size: { first.n ≡ second.n },
 }
 
 // One column of an own row, seen against the other own row: the other names its meeting too, it has a name, and the other has the same one there.
-#[derive(Clone, Copy)]
+#[derive(Clone, Copy, Debug, PartialEq, Eq)]
 pub struct Seen {
     pub common: bool,
     pub heard: bool,
@@ -28,7 +32,7 @@ pub struct Seen {
 }
 
 // All columns of an own row, as sets of stalls.
-#[derive(Clone, Copy)]
+#[derive(Clone, Copy, Debug, PartialEq, Eq)]
 pub struct View {
     pub common: u64,
     pub heard: u64,
@@ -36,7 +40,7 @@ pub struct View {
 }
 
 // Stalls by verdict: 1, 2, and 9; and those that the head they come from has heard.
-#[derive(Clone, Copy)]
+#[derive(Clone, Copy, Debug, PartialEq, Eq)]
 pub struct Decided {
     pub one: u64,
     pub two: u64,
@@ -45,7 +49,7 @@ pub struct Decided {
 }
 
 // Stalls by who has them, as sets: the two that met; of the others those that the first has, that the second has, and that the second alone has; and all that are heard afterwards.
-#[derive(Clone, Copy)]
+#[derive(Clone, Copy, Debug, PartialEq, Eq)]
 pub struct Sets {
     pub pair: u64,
     pub first: u64,

@@ -2,14 +2,10 @@
 ghost use Rattle.std.specs.Prelude.{◌≡◌, cond, length, ◌≤◌};
 ghost use Rattle.image.specs.Frame.{Framed};
 ghost use Rattle.image.specs.Layout.{largest};
-ghost use Rattle.image.specs.Encode.{table_of};
 ghost use Rattle.image.specs.Check.{checked};
 ghost use Rattle.image.specs.declared.Checked.TheVariants.{Good};
 ghost use Rattle.image.specs.Stalls.{has};
 ghost use Rattle.merge.specs.ByStall.{ByStall};
-ghost use Rattle.merge.specs.Views.{Decides};
-ghost use Rattle.merge.specs.Label.{new_label};
-ghost use Rattle.merge.specs.Body.{image_after};
 ghost use Rattle.merge.specs.Call.{MeetingOutcome, met_together, meeting_call};
 
 use crate::known::verdicts;
@@ -19,30 +15,35 @@ use crate::rows::merged_rows;
 use crate::stalls::has_stall;
 use crate::write::{copy_body, write_body};
 use crate::yields::merged_yields;
-use crate::{Decided, Parties};
-use image::Checked;
-use image::bytes::wide;
+use crate::{Both, Decided};
+use image::{Checked, Header, Image, Refusal};
 
-// Both images after the meeting, and its label. All is read before a byte is written.
-fn write_meeting(first: &mut [u8], second: &mut [u8], x: Parties, d: Decided) -> u8
-    requires framed { Framed first.old x.n x.p × Framed second.old x.n x.q }
-    requires decides { Decides x.n x.p (table_of first.old x.n) x.q (table_of second.old x.n) d }
-    ensures { (result ≡ new_label x.n x.p (table_of first.old x.n) x.q (table_of second.old x.n))
-        × (first.new
-        ≡ image_after first.old first.old second.old x.n x.p x.q result (has d.two))
-        × (second.new
-        ≡ image_after second.old first.old second.old x.n x.p x.q result (has d.two)) }
+// Two images of one parlour, with these headers, as what is read.
+fn both_of<'a>(first: &'a [u8], second: &'a [u8], h: Header, g: Header) -> Both<'a>
+    requires { Framed first.now h.n h.stall × Framed second.now g.n g.stall × (h.n ≡ g.n) }
+    ensures { (result.first.bytes.now ≡ first.now)
+        × (result.second.bytes.now ≡ second.now)
+        × (result.first.n ≡ h.n)
+        × (result.first.own ≡ h.stall)
+        × (result.second.own ≡ g.stall) }
 {
-    let orders = orders_after(first, second, x, d);
-    let k = new_label(first, second, x);
-    let rows = merged_rows(first, second, x, k, d.two);
-    let yields = merged_yields(first, second, x, d.two);
-    write_body(first, wide(x.n), rows, yields, orders);
-    copy_body(second, first);
-    k
+    let one = Image {
+        bytes: first,
+        n: h.n,
+        own: h.stall,
+    };
+    let two = Image {
+        bytes: second,
+        n: g.n,
+        own: g.stall,
+    };
+    Both {
+        first: one,
+        second: two,
+    }
 }
 
-// The verdict byte of a stall that is not undecided.
+// The verdict of a stall that is not undecided, as the byte that C firmware reads.
 fn verdict_byte(one: bool, two: bool) -> u8
     ensures { result ≡ cond one 1 (cond two 2 0) }
 {
@@ -60,31 +61,38 @@ fn write_verdicts(buffer: &mut [u8], d: Decided)
     requires { length buffer.old ≤ largest }
     ensures { ByStall 0 (length buffer.old) (length buffer.old) (λ r. cond (has d.one r) 1 (cond (has d.two r) 2 0)) buffer.new }
 {
-    let mut i = 0usize;
-    while i < buffer.len() {
-        buffer[i] = verdict_byte(has_stall(d.one, i), has_stall(d.two, i));
-        i += 1;
+    for (i, verdict) in buffer.iter_mut().enumerate() {
+        *verdict = verdict_byte(has_stall(d.one, i), has_stall(d.two, i));
     }
 }
 
-// The meeting of two accepted images of n heads with different stalls, and a buffer of n bytes.
-fn meet(first: &mut [u8], second: &mut [u8], x: Parties, buffer: &mut [u8]) -> u32
-    requires first_value { (checked first.old ≡ Good (record { n = x.n; stall = x.p })) × (checked second.old ≡ Good (record { n = x.n; stall = x.q })) }
-    requires buffer_len { length buffer.old ≡ x.n }
+// The meeting of two accepted images of n heads with different stalls, and a buffer of n bytes. All of the images is read, through views, before a byte of them is written.
+// The verdicts are written before the rows are made: written after them, the stack frame was 1,448 bytes in place of 952.
+fn meet(first: &mut [u8], second: &mut [u8], h: Header, g: Header, buffer: &mut [u8]) -> u32
+    requires accepted { (checked first.old ≡ Good h) × (checked second.old ≡ Good g) × (h.n ≡ g.n) }
+    requires buffer_len { length buffer.old ≡ h.n }
     ensures { ◌≡◌ {A = MeetingOutcome}
         (record { answer = result; first = first.new; second = second.new; verdicts = buffer.new })
-        (met_together first.old second.old buffer.old x.n x.p x.q) }
+        (met_together first.old second.old buffer.old h.n h.stall g.stall) }
 {
-    let d = verdicts(first, second, x);
+    let both = both_of(first, second, h, g);
+    let d = verdicts(&both);
     if d.nine != 0 {
-        return 265;
+        return Refusal::Verdict.answer();
     }
     write_verdicts(buffer, d);
-    write_meeting(first, second, x, d) as u32
+    let orders = orders_after(&both, d);
+    let k = new_label(&both);
+    let rows = merged_rows(&both, k, d.two);
+    let yields = merged_yields(&both, d.two);
+    write_body(first, usize::from(h.n), rows, yields, orders);
+    copy_body(second, first);
+    u32::from(k)
 }
 
-// The label of a meeting, or 256 plus the number of its refusal.
-#[tactic(auto, using(crate::proofs::meeting::MeetingCalls::refusals), unfolding(crate::specs::Call::meeting_call, crate::specs::Call::met_checked, crate::specs::Call::met_good))]
+// The label of a meeting, or 256 plus the number of its refusal: a number for both, since C firmware links it.
+// A refused check is taken apart by `let .. else` and its number handed on, not by `?`: the scope document names the form.
+#[tactic(auto, using(image::proofs::Stages::number_le), unfolding(crate::specs::Call::meeting_call, crate::specs::Call::met_checked, crate::specs::Call::met_good))]
 pub fn meeting(first: &mut [u8], second: &mut [u8], buffer: &mut [u8]) -> u32
     ensures { ◌≡◌ {A = MeetingOutcome}
         (record { answer = result; first = first.new; second = second.new; verdicts = buffer.new })
@@ -92,22 +100,17 @@ pub fn meeting(first: &mut [u8], second: &mut [u8], buffer: &mut [u8]) -> u32
 {
     let c = image::check(first);
     let Checked::Good(h) = c else {
-        return 256 + image::number_of(c);
+        return Refusal::ABOVE + image::number_of(c);
     };
     let d = image::check(second);
     let Checked::Good(g) = d else {
-        return 256 + image::number_of(d);
+        return Refusal::ABOVE + image::number_of(d);
     };
-    let x = Parties {
-        n: h.n,
-        p: h.stall,
-        q: g.stall,
-    };
-    if (x.n != g.n) | (x.p == x.q) {
-        return 263;
+    if (h.n != g.n) | (h.stall == g.stall) {
+        return Refusal::Strangers.answer();
     }
-    if buffer.len() != wide(x.n) {
-        return 264;
+    if buffer.len() != usize::from(h.n) {
+        return Refusal::Buffer.answer();
     }
-    meet(first, second, x, buffer)
+    meet(first, second, h, g, buffer)
 }

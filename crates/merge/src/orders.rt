@@ -1,26 +1,23 @@
-// The order marks that both heads hold after a meeting. Sets of stalls are numbers.
-ghost use Rattle.std.specs.Prelude.{◌≡◌, suc, ◌%◌, ◌≤◌, ◌<◌};
+// The order marks that both heads hold after a meeting, by value as the rows are. Sets of stalls are numbers.
+ghost use Rattle.std.specs.Prelude.{◌≡◌, suc, ◌%◌, ◌<◌};
 ghost use Rattle.image.specs.Layout.{largest, order_at};
 ghost use Rattle.image.specs.Encode.{table_of};
-ghost use Rattle.image.specs.Frame.{Sized, Framed};
 ghost use Rattle.merge.specs.ByStall.{ByStall};
 ghost use Rattle.merge.specs.Views.{Decides};
 ghost use Rattle.merge.specs.Orders.{Sorts, from_second, order_of, Ordered};
 
 use crate::stalls::{all_stalls, has_stall, without};
-use crate::{Decided, Parties, Sets};
+use crate::{Both, Decided, Sets};
 use image::STALLS;
-use image::bytes::wide;
 use image::marks::{bit_of, pick};
 use image::orders::{order_at, order_width, orders_place};
 
 // The stalls by who has them.
-fn sorted(x: Parties, d: Decided) -> Sets
-    requires { (x.n ≤ largest) × (1 ≤ x.p) × (x.p ≤ x.n) × (1 ≤ x.q) × (x.q ≤ x.n) }
-    ensures { Sorts x.n x.p x.q d result }
+fn sorted(x: &Both<'_>, d: Decided) -> Sets
+    ensures { Sorts x.now.first.n x.now.first.own x.now.second.own d result }
 {
-    let pair = bit_of(x.p) | bit_of(x.q);
-    let others = without(all_stalls(x.n), pair);
+    let pair = bit_of(x.first.own) | bit_of(x.second.own);
+    let others = without(all_stalls(x.first.n), pair);
     Sets {
         pair,
         first: without(others, d.two),
@@ -51,28 +48,28 @@ fn order_of(x: Sets, r: usize, mine: u64, theirs: u64) -> u64
     pick(has_stall(x.heard, r), x.pair) | (first | second)
 }
 
-// The order marks of n stalls after a meeting.
-fn merged_orders(first: &[u8], second: &[u8], n: usize, x: Sets) -> [u16; STALLS]
-    requires { Sized first.now n × Sized second.now n }
-    ensures { ByStall 0 largest n (λ r. order_of x r (order_at first.now n r) (order_at second.now n r) % 65536) result }
+// The order marks of all stalls after a meeting, by who has them.
+fn merged_orders(x: &Both<'_>, sets: Sets) -> [u16; STALLS]
+    ensures { ByStall 0 largest x.now.first.n (λ r. order_of sets r (order_at x.now.first.bytes.now x.now.first.n r) (order_at x.now.second.bytes.now x.now.first.n r) % 65536) result }
 {
-    let mut out = [0u16; STALLS];
+    let n = usize::from(x.first.n);
     let width = order_width(n);
-    let mut at = orders_place(first.len(), n);
-    let mut r = 0usize;
-    while r < n {
-        out[r] = (order_of(x, r, order_at(first, n, at), order_at(second, n, at)) % 65536) as u16;
+    let mut out = [0u16; STALLS];
+    let mut at = orders_place(x.first.bytes.len(), n);
+    for (r, order) in out[..n].iter_mut().enumerate() {
+        let mine = order_at(x.first.bytes, n, at);
+        let theirs = order_at(x.second.bytes, n, at);
+        // No From makes a number narrower; what is cut off is 0.
+        *order = (order_of(sets, r, mine, theirs) % 65536) as u16;
         at += width;
-        r += 1;
     }
     out
 }
 
 // The order marks after a meeting with these verdicts.
-pub(crate) fn orders_after(first: &[u8], second: &[u8], x: Parties, d: Decided) -> [u16; STALLS]
-    requires framed { Framed first.now x.n x.p × Framed second.now x.n x.q }
-    requires decides { Decides x.n x.p (table_of first.now x.n) x.q (table_of second.now x.n) d }
-    ensures { Ordered first.now second.now x.n x.p x.q result }
+pub(crate) fn orders_after(x: &Both<'_>, d: Decided) -> [u16; STALLS]
+    requires { Decides x.now.first.n x.now.first.own (table_of x.now.first.bytes.now x.now.first.n) x.now.second.own (table_of x.now.second.bytes.now x.now.first.n) d }
+    ensures { Ordered x.now.first.bytes.now x.now.second.bytes.now x.now.first.n x.now.first.own x.now.second.own result }
 {
-    merged_orders(first, second, wide(x.n), sorted(x, d))
+    merged_orders(x, sorted(x, d))
 }

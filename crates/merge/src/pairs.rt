@@ -1,21 +1,21 @@
 // Rows of pairs of both heads: two bytes a stall, from the head that the stall comes from.
 ghost use Rattle.std.specs.Prelude.{◌≡◌, ◌+◌, ◌*◌, ◌≤◌, ◌<◌, cond, eqb, length};
-ghost use Rattle.image.specs.Layout.{largest};
 ghost use Rattle.image.specs.Stalls.{each, has};
 ghost use Rattle.merge.specs.Body.{pair_at, pair_bytes, padded, mixed_pair};
 
+use crate::Both;
 use crate::stalls::has_stall;
 use image::ROW;
 
 // Two bytes of an image: a name, or a yield.
-#[derive(Clone, Copy)]
+#[derive(Clone, Copy, Debug, PartialEq, Eq)]
 pub struct Pair {
     pub high: u8,
     pub low: u8,
 }
 
 // What one head brings to a row of pairs: its stall, the place in its image where such a row starts, and the pair of its own stall.
-#[derive(Clone, Copy)]
+#[derive(Clone, Copy, Debug, PartialEq, Eq)]
 pub struct Side {
     pub stall: usize,
     pub at: usize,
@@ -41,32 +41,29 @@ fn either(t: bool, x: Pair, y: Pair) -> Pair
 }
 
 // The pair of stall c, which stands d bytes behind the start of the row.
-fn pick(first: &[u8], a: Side, second: &[u8], b: Side, c: usize, d: usize, theirs: bool) -> Pair
-    requires { (a.at + d + 1 < length first.now) × (b.at + d + 1 < length second.now) }
+fn pick(x: &Both<'_>, a: Side, b: Side, c: usize, d: usize, theirs: bool) -> Pair
+    requires { (a.at + d + 1 < length x.now.first.bytes.now) × (b.at + d + 1 < length x.now.second.bytes.now) }
     ensures { pair_bytes result
         ≡ cond (eqb c a.stall) (pair_bytes a.own)
         (cond (eqb c b.stall) (pair_bytes b.own)
-        (cond theirs (pair_at second.now (b.at + d)) (pair_at first.now (a.at + d)))) }
+        (cond theirs (pair_at x.now.second.bytes.now (b.at + d)) (pair_at x.now.first.bytes.now (a.at + d)))) }
 {
-    let x = pair_at(first, a.at + d);
-    let y = pair_at(second, b.at + d);
-    let taken = either(theirs, y, x);
-    let other = either(c == b.stall, b.own, taken);
-    either(c == a.stall, a.own, other)
+    let mine = pair_at(x.first.bytes, a.at + d);
+    let other = pair_at(x.second.bytes, b.at + d);
+    let taken = either(theirs, other, mine);
+    either(c == a.stall, a.own, either(c == b.stall, b.own, taken))
 }
 
 // The pairs of n stalls, those of a set from the second head.
-pub(crate) fn mixed(first: &[u8], a: Side, second: &[u8], b: Side, n: usize, two: u64) -> [u8; ROW]
-    requires { (n ≤ largest) × (a.at + n * 2 ≤ length first.now) × (b.at + n * 2 ≤ length second.now) }
-    ensures { result ≡ padded n (each n (mixed_pair first.now a second.now b (has two))) }
+pub(crate) fn mixed(x: &Both<'_>, a: Side, b: Side, two: u64) -> [u8; ROW]
+    requires { (a.at + x.now.first.n * 2 ≤ length x.now.first.bytes.now) × (b.at + x.now.first.n * 2 ≤ length x.now.second.bytes.now) }
+    ensures { result ≡ padded x.now.first.n (each x.now.first.n (mixed_pair x.now.first.bytes.now a x.now.second.bytes.now b (has two))) }
 {
     let mut row = [0u8; ROW];
-    let mut c = 0usize;
-    while c < n {
-        let x = pick(first, a, second, b, c + 1, c + c, has_stall(two, c));
-        row[c + c] = x.high;
-        row[c + c + 1] = x.low;
-        c += 1;
+    for c in 0..usize::from(x.first.n) {
+        let pair = pick(x, a, b, c + 1, c + c, has_stall(two, c));
+        row[c + c] = pair.high;
+        row[c + c + 1] = pair.low;
     }
     row
 }

@@ -1,29 +1,29 @@
-// The yields that both heads hold after a meeting, by value.
+// The yields that both heads hold after a meeting, by value as the rows are.
 ghost use Rattle.std.specs.Prelude.{◌≡◌};
-ghost use Rattle.image.specs.Frame.{Framed};
 ghost use Rattle.image.specs.Stalls.{each, has};
 ghost use Rattle.merge.specs.Body.{padded, body_yield};
 
-use crate::Parties;
+use crate::Both;
 use crate::pairs::{Side, mixed, pair_at};
 use image::ROW;
-use image::bytes::{wide, yields_place};
+use image::bytes::yields_place;
 
 // The yields of all stalls, with zeros behind them: for the two that met their current ones; two has the stalls that come from the second.
-pub(crate) fn merged_yields(first: &[u8], second: &[u8], x: Parties, two: u64) -> [u8; ROW]
-    requires { Framed first.now x.n x.p × Framed second.now x.n x.q }
-    ensures { result ≡ padded x.n (each x.n (body_yield first.now second.now x.n x.p x.q (has two))) }
+pub(crate) fn merged_yields(x: &Both<'_>, two: u64) -> [u8; ROW]
+    ensures { result ≡ padded x.now.first.n (each x.now.first.n (body_yield x.now.first.bytes.now x.now.second.bytes.now x.now.first.n x.now.first.own x.now.second.own (has two))) }
 {
-    let m = wide(x.n);
+    let n = usize::from(x.first.n);
+    let first = x.first.bytes;
+    let second = x.second.bytes;
     let a = Side {
-        stall: wide(x.p),
-        at: yields_place(first.len(), m),
+        stall: usize::from(x.first.own),
+        at: yields_place(first.len(), n),
         own: pair_at(first, 2),
     };
     let b = Side {
-        stall: wide(x.q),
-        at: yields_place(second.len(), m),
+        stall: usize::from(x.second.own),
+        at: yields_place(second.len(), n),
         own: pair_at(second, 2),
     };
-    mixed(first, a, second, b, m, two)
+    mixed(x, a, b, two)
 }

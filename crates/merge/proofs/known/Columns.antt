@@ -1,7 +1,7 @@
 -- A column of an own row as the code sees it: by partner and label of its name, and of the other own row's names in that column and in the partner's.
 use Prim.Native.Nat.{ℕ, ◌+◌, ◌-◌, ◌*◌, ◌≤◌}
 use mathlib.Core.Path.{◌≡◌, refl, sym, ap, ◌∙◌}
-use mathlib.Core.Bool.{Bool, true, false, ◌&&◌, ◌||◌, not, cond}
+use mathlib.Core.Bool.{Bool, true, false, ◌&&◌, ◌||◌, not}
 use mathlib.Core.List.{List}
 use native.Mathlib.Omega.{arith}
 use borrow.Author.Tests.{ne_eqb, le-leb}
@@ -11,7 +11,6 @@ use Rattle.image.specs.Row.{is_never}
 use Rattle.image.specs.declared.Name.{Name}
 use Rattle.image.specs.declared.Name.TheVariants.{Never, With}
 use Rattle.image.proofs.Encoding.{Proper, proper_from}
-use Rattle.image.proofs.Passing.{and_holds, leb_holds}
 use Rattle.merge.specs.Known.{common}
 use Rattle.merge.specs.Verdict.{same_name}
 use Rattle.merge.specs.Views.{partner_in, label_in, name_in, row_name, across, shared}
@@ -31,13 +30,6 @@ same_partner (With m) Never v w = ap (λ t. t && eqb m.label 0) (ne_eqb m.partne
 same_partner (With m) (With k) v w = refl
 
 -- The place of the partner's column
-
-pub across_fits : (n d : ℕ) → 1 ≤ n → across n d + 2 ≤ n * 2
-across_fits n d l = go (leb 1 d && leb d n) refl
-  where
-    go : (t : Bool) → (leb 1 d && leb d n) ≡ t → cond t ((d - 1) * 2) 0 + 2 ≤ n * 2
-    go true e = let h = (and_holds (leb 1 d) (leb d n)).0 e in omega (arith, (leb_holds 1 d).0 h.0, (leb_holds d n).0 h.1)
-    go false e = omega arith
 
 -- it is looked at only where there is a name whose partner's column is there
 crossed : (x : Name) (same : Bool) (n : ℕ) (f : ℕ → Bool) → Proper x

@@ -103,22 +103,20 @@ module _ (n p : ℕ) (a : Table) (q : ℕ) (b : Table) where
       two_is : d.two ≡ bits n is_two
       two_is = two ∙ rw (f, g) (without_bits n first_known second_known ∙ bits_agree n _ _ (λ r i j. judge_two (first_known r) (second_known r) (same r)))
 
--- The same of two images: own rows at i and j, looked at from both sides, and the stalls with a mark to a common column
-pub verdict_sets : (s u : List ℕ) (n m p q i j : ℕ) (x y : View) → m ≡ n → i ≡ row_place n p → j ≡ row_place n q
-    → Views n (row_name s i) (row_name u j) x → Views n (row_name u j) (row_name s i) y
+-- The same of two images: their own rows, looked at from both sides, and the stalls with a mark to a common column
+pub verdict_sets : (s u : List ℕ) (n p q : ℕ) (x y : View)
+    → Views n (row_name s (row_place n p)) (row_name u (row_place n q)) x → Views n (row_name u (row_place n q)) (row_name s (row_place n p)) y
     → (all v e w f : ℕ) → all ≡ bits n (λ r. true)
-    → v ≡ without all x.heard → e ≡ bits m (λ r. not (eqb (bit_and (order_at s m r) x.common) 0))
-    → w ≡ without all y.heard → f ≡ bits m (λ r. not (eqb (bit_and (order_at u m r) y.common) 0))
+    → v ≡ without all x.heard → e ≡ bits n (λ r. not (eqb (bit_and (order_at s n r) x.common) 0))
+    → w ≡ without all y.heard → f ≡ bits n (λ r. not (eqb (bit_and (order_at u n r) y.common) 0))
     → (d : Decided) → let first = bit_or v e in let second = bit_or w f in
     d.one ≡ without second first → d.two ≡ without first second
     → d.nine ≡ bit_or (without all (bit_or first second)) (without (bit_and first second) x.same)
     → d.heard ≡ bit_or (without x.heard d.two) (bit_and y.heard d.two)
     → Decides n p (table_of s n) q (table_of u n) d
 unfolding table_of name_at mark_at
-verdict_sets s u n m p q i j x y m_is i_is j_is a b all v e w f all_is v_is e_is w_is f_is d =
-    let a' = rw (i_is, j_is) at a in
-    let b' = rw (i_is, j_is) at b in
-    decides n p (table_of s n) q (table_of u n) x y a' b' all (bit_or v e) (bit_or w f) all_is
-    (ap (λ k. bit_or k e) v_is ∙ known_set n ((table_of s n).names p) ((table_of u n).names q) (order_at s n) x a' all e all_is (rw m_is at e_is))
-    (ap (λ k. bit_or k f) w_is ∙ known_set n ((table_of u n).names q) ((table_of s n).names p) (order_at u n) y b' all f all_is (rw m_is at f_is))
+verdict_sets s u n p q x y a b all v e w f all_is v_is e_is w_is f_is d =
+    decides n p (table_of s n) q (table_of u n) x y a b all (bit_or v e) (bit_or w f) all_is
+    (ap (λ k. bit_or k e) v_is ∙ known_set n ((table_of s n).names p) ((table_of u n).names q) (order_at s n) x a all e all_is e_is)
+    (ap (λ k. bit_or k f) w_is ∙ known_set n ((table_of u n).names q) ((table_of s n).names p) (order_at u n) y b all f all_is f_is)
     d

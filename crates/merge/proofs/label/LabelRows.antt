@@ -1,18 +1,16 @@
 -- The loop that gathers the labels of the rows 1 to n.
-use Prim.Native.Nat.{ℕ, ◌+◌, ◌-◌, ◌≤◌, ◌<◌}
+use Prim.Native.Nat.{ℕ, ◌+◌, ◌-◌, ◌≤◌}
 use mathlib.Core.Path.{◌≡◌, sym, ap, ap₂, ◌∙◌}
 use mathlib.Core.Bool.{Bool, ◌||◌}
 use mathlib.Core.List.{List}
 use native.Mathlib.Omega.{arith}
-use lib.Bits.{bit_or}
+use lib.Bits.{bit_or, or_comm}
 use Rattle.image.specs.Stalls.{some}
 use Rattle.image.specs.Layout.{row_place, name_at}
 use Rattle.image.specs.Encode.{table_of}
-use Rattle.image.specs.Frame.{Sized}
 use Rattle.image.proofs.Search.{times_step, some_suc}
-use Rattle.image.proofs.Places.{row_within}
 use Rattle.merge.specs.Label.{row_has}
-use Rattle.merge.specs.LabelSet.{label_set, name_has, Column}
+use Rattle.merge.specs.LabelSet.{label_set, name_has}
 use Rattle.merge.proofs.label.LabelSets.{set_agree, set_none, set_or}
 
 -- the invariant: before the turn at r, the labels of the rows below r have been gathered, and row r starts at its place
@@ -27,7 +25,7 @@ unfolding some
 rows_start n f = record { from = omega arith; to = omega arith; stands = omega arith; so_far = set_none }
 
 pub rows_next : {n row r set x : ℕ} {f : ℕ → ℕ → Bool} → Rows n row r set f → r ≤ n → x ≡ label_set (λ k. f k r)
-    → Rows n (row + (n + n)) (r + 1) (bit_or x set) f
+    → Rows n (row + (n + n)) (r + 1) (bit_or set x) f
 rows_next {n} {row} {r} {set} {x} {f} w l e =
     let a : r + 1 - 1 ≡ r = omega arith in
     record {
@@ -35,15 +33,8 @@ rows_next {n} {row} {r} {set} {x} {f} w l e =
       to = omega arith;
       stands = rw a (omega (arith, times_step r (n + n) w.from, w.stands));
       so_far =
-          rw a (ap₂ bit_or e w.so_far ∙ set_or (λ k. f k r) (λ k. some (r - 1) (f k)) ∙ set_agree (λ k. sym (some_suc (f k) r w.from)));
+          rw a (or_comm set x ∙ ap₂ bit_or e w.so_far ∙ set_or (λ k. f k r) (λ k. some (r - 1) (f k)) ∙ set_agree (λ k. sym (some_suc (f k) r w.from)));
     }
-
-pub rows_end : {n row r set : ℕ} {f : ℕ → ℕ → Bool} → Rows n row r set f → n < r → set ≡ label_set (λ k. some n (f k))
-rows_end {n} {r = r} {f = f} w l = let e : r - 1 ≡ n = omega arith in w.so_far ∙ ap (λ m. label_set (λ k. some m (f k))) e
-
--- a column of a row lies within the image
-pub row_column : {s : List ℕ} {n row r : ℕ} (c : ℕ) → Sized s n → 1 ≤ r → r ≤ n → row ≡ row_place n r → 1 ≤ c → c ≤ n → Column s row c
-row_column c z a b e p q = record { from = p; within = omega (arith, row_within a b, z.long) }
 
 -- what is read there is what the table says
 pub row_set : (s : List ℕ) (n p q row r : ℕ) → row ≡ row_place n r

@@ -5,7 +5,6 @@ use mathlib.Core.Path.{◌≡◌, refl, sym, ap, ◌∙◌}
 use mathlib.Core.List.{List, [], ◌++◌, append_assoc}
 use lib.ListN.{length, get_or, take, drop}
 use lib.Seq.{length-take-le, drop-append_seam}
-use Rattle.image.specs.Layout.{largest, longest_row}
 use Rattle.image.specs.Stalls.{each, bits}
 use Rattle.image.specs.Encode.{order_bytes, table_of}
 use Rattle.image.specs.Frame.{Sized, Framed}
@@ -14,25 +13,21 @@ use Rattle.merge.specs.Merged.{merged_order}
 use Rattle.merge.specs.Orders.{Ordered}
 use Rattle.merge.specs.Body.{body_row, body_yield, padded, order_in, row_in, image_after}
 use Rattle.merge.proofs.Frames.{framed_sized}
-use Rattle.merge.proofs.write.BodyWritten.{rows_long, yields_long, rows_in, yields_in}
+use Rattle.merge.proofs.write.BodyWritten.{rows_in, yields_in}
 use Rattle.merge.proofs.meeting.AfterMeeting.{orders_in}
 
-module _ (s u : List ℕ) (n p q k : ℕ) (t : ℕ → Bool) (a : Framed s n p) (b : Framed u n q) (rows : List (List ℕ)) (yields orders : List ℕ)
-    (rows_are : (r : ℕ) → 1 ≤ r → r ≤ n → get_or rows (r - 1) [] ≡ padded n (body_row s u n p q k t r)) (yields_are : yields ≡ padded n (each n (body_yield s u n p q t)))
-    (orders_are : Ordered s u n p q orders) (m : ℕ) (m_is : m ≡ n) where
-  pub may_write : (d : List ℕ) (own : ℕ) → Framed d n own → length rows ≡ largest
-      → (Sized d m × (length rows ≡ largest) × ((r : ℕ) → 1 ≤ r → r ≤ m → length (get_or rows (r - 1) []) ≡ longest_row)) × ((length yields ≡ longest_row) × (length orders ≡ largest) × ((r : ℕ) → 1 ≤ r → r ≤ m → get_or orders (r - 1) 0 < 2 ^ m))
-  may_write d own f e =
-      rw m_is (
-        (framed_sized f refl, e, rows_long s u n p q k t a b rows yields rows_are yields_are),
-        (yields_long s u n p q k t a b rows yields rows_are yields_are, orders_are.long, λ r i j. rw (orders_are.right r i j) (bits_lt n _)),
-      )
+pub may_write : (s u : List ℕ) (n p q : ℕ) (orders : List ℕ) → Ordered s u n p q orders → (m : ℕ) → m ≡ n
+    → (d : List ℕ) (own : ℕ) → Framed d n own → Sized d m × ((r : ℕ) → 1 ≤ r → r ≤ m → get_or orders (r - 1) 0 < 2 ^ m)
+may_write s u n p q orders orders_are m m_is d own f = rw m_is (framed_sized f refl, λ r i j. rw (orders_are.right r i j) (bits_lt n _))
 
-  pub was_written : (d x : List ℕ) → x ≡ take 4 d ++ each m (row_in rows m) ++ take (m * 2) yields ++ each m (order_in orders m) → x ≡ image_after d s u n p q k t
-  was_written d x e =
-      e
-      ∙ ap (λ j. take 4 d ++ each j (row_in rows j) ++ take (j * 2) yields ++ each j (order_in orders j)) m_is
-      ∙ rw (rows_in s u n p q k t a b rows yields rows_are yields_are, yields_in s u n p q k t a b rows yields rows_are yields_are, orders_in s u n p q orders orders_are)
+pub was_written : (s u : List ℕ) (n p q k : ℕ) (t : ℕ → Bool) → Framed s n p → Framed u n q → (rows : List (List ℕ)) (yields : List ℕ)
+    → ((r : ℕ) → 1 ≤ r → r ≤ n → get_or rows (r - 1) [] ≡ padded n (body_row s u n p q k t r)) → yields ≡ padded n (each n (body_yield s u n p q t))
+    → (orders : List ℕ) → Ordered s u n p q orders → (m : ℕ) → m ≡ n
+    → (d x : List ℕ) → x ≡ take 4 d ++ each m (row_in rows m) ++ take (m * 2) yields ++ each m (order_in orders m) → x ≡ image_after d s u n p q k t
+was_written s u n p q k t a b rows yields rows_are yields_are orders orders_are m m_is d x e =
+    e
+    ∙ ap (λ j. take 4 d ++ each j (row_in rows j) ++ take (j * 2) yields ++ each j (order_in orders j)) m_is
+    ∙ rw (rows_in s u n p q k t a b rows yields rows_are yields_are, yields_in s u n p q k t a b rows yields rows_are yields_are, orders_in s u n p q orders orders_are)
 
 -- what stands behind the first four bytes of one image afterwards, in the other
 pub copied : (d e s u : List ℕ) (n p q k : ℕ) (t : ℕ → Bool) (x y : List ℕ) → 4 ≤ length d → x ≡ image_after d s u n p q k t → y ≡ take 4 e ++ drop 4 x

@@ -1,7 +1,7 @@
 -- A meeting as a call is one of two: refused, with every lent byte as before, or a meeting of these two heads.
 use Prim.Native.Nat.{ℕ, ◌≤◌, ◌<◌}
-use mathlib.Core.Path.{◌≡◌, refl, ap}
-use mathlib.Core.Bool.{false, not}
+use mathlib.Core.Path.{◌≡◌, refl, sym, ap, ◌∙◌}
+use mathlib.Core.Bool.{Bool, false, not, ◌||◌}
 use mathlib.Core.Logic.{◌⊎◌, inl, inr}
 use mathlib.Core.List.{List}
 use native.Mathlib.Omega.{arith}
@@ -18,8 +18,17 @@ use Rattle.image.proofs.Accepted.{accepted, not_either}
 use Rattle.merge.specs.Verdict.{undecided}
 use Rattle.merge.specs.Call.{MeetingOutcome, refused_meeting, accepted_meeting, met_together, met_good, met_checked, meeting_call}
 use Rattle.merge.proofs.label.NewLabel.{new_label_most}
-use Rattle.merge.proofs.meeting.MeetingCalls.{apart, one_parlour}
 use Rattle.merge.proofs.meeting.AfterLaws.{either}
+
+-- two images "differ in N or have one stall"
+abbrev apart : Header → Header → Bool
+apart h g = not (eqb h.n g.n) || eqb h.stall g.stall
+
+-- two that do not
+one_parlour : (u : List ℕ) (h g : Header) → apart h g ≡ false → checked u ≡ Good g → checked u ≡ Good (record { n = h.n; stall = g.stall })
+one_parlour u h g e f =
+    let same = eqb-true h.n g.n (not-false (eqb h.n g.n) (not_either (not (eqb h.n g.n)) (eqb h.stall g.stall) e).0) in
+    f ∙ ap (λ n. Good (record { n = n; stall = g.stall })) (sym same)
 
 module _ (s u buffer : List ℕ) where
   -- refused: every lent byte as before

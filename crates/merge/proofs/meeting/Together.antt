@@ -1,5 +1,5 @@
 -- A meeting of two accepted images, as a call: refused with 9, or done.
-use Prim.Native.Nat.{ℕ, ◌<◌}
+use Prim.Native.Nat.{ℕ, ◌+◌, ◌<◌}
 use mathlib.Core.Path.{◌≡◌, sym, ap, ◌∙◌}
 use mathlib.Core.Bool.{false, not, cond}
 use mathlib.Core.List.{List}
@@ -8,6 +8,8 @@ use lib.Dec.{eqb}
 use lib.ListN.{length, get_or}
 use Rattle.image.specs.Stalls.{has}
 use Rattle.image.specs.Encode.{table_of}
+use Rattle.image.specs.Refusal.{number}
+use Rattle.image.specs.declared.Refusal.TheVariants.{Verdict}
 use Rattle.image.proofs.StallSets.{has_at, any_test}
 use Rattle.image.proofs.Accepted.{Accepted}
 use Rattle.merge.specs.declared.Decided.{Decided}
@@ -26,7 +28,7 @@ module _ (s u buffer : List ℕ) (n p q : ℕ) (d : Decided) (w : Decides n p (t
   nine_is = ap (λ k. not (eqb k 0)) w.nine_is ∙ any_test n _
 
   pub met_nine : (d.nine ≡ 0 → ⊥)
-      → ◌≡◌ {A = MeetingOutcome} (record { answer = 265; first = s; second = u; verdicts = buffer }) (met_together s u buffer n p q)
+      → ◌≡◌ {A = MeetingOutcome} (record { answer = 256 + number Verdict; first = s; second = u; verdicts = buffer }) (met_together s u buffer n p q)
   unfolding met_together
   met_nine e = rw (sym nine_is ∙ ap not (ne_eqb d.nine 0 e))
 

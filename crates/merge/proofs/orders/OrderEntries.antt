@@ -20,11 +20,10 @@ fits n f l =
     let a : bits n f < 65536 = omega (arith, bits_lt n f, pow_mono {i = n} {j = largest} l) in
     omega arith
 
-pub ordered : (s u : List ℕ) (n m p q : ℕ) (x : Sets) (out : List ℕ) → m ≡ n → n ≤ largest → Sorted n p (table_of s n) q (table_of u n) x
-    → ByStall 0 largest m (λ r. order_of x r (order_at s m r) (order_at u m r) % 65536) out → Ordered s u n p q out
+pub ordered : (s u : List ℕ) (n p q : ℕ) (x : Sets) (out : List ℕ) → n ≤ largest → Sorted n p (table_of s n) q (table_of u n) x
+    → ByStall 0 largest n (λ r. order_of x r (order_at s n r) (order_at u n r) % 65536) out → Ordered s u n p q out
 unfolding table_of mark_at
-ordered s u n m p q x out e l w at_m =
-    let o = rw e at at_m in
+ordered s u n p q x out l w o =
     record {
       long = o.long;
       right = λ r i j.

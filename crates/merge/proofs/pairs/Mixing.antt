@@ -18,10 +18,10 @@ yield_from : (s u : List ℕ) (i : ℕ) (t : Bool) → cond t (pair_at u i) (pai
 yield_from s u i true = refl
 yield_from s u i false = refl
 
-module _ (s u r : List ℕ) (t : ℕ → Bool) (n m p q : ℕ) (a b : Side) (is_n : m ≡ n) (is_p : a.stall ≡ p) (is_q : b.stall ≡ q)
-    (is_r : r ≡ padded m (each m (mixed_pair s a u b t))) where
+module _ (s u r : List ℕ) (t : ℕ → Bool) (n p q : ℕ) (a b : Side) (is_p : a.stall ≡ p) (is_q : b.stall ≡ q)
+    (is_r : r ≡ padded n (each n (mixed_pair s a u b t))) where
   mixed_is : (g : ℕ → List ℕ) → ((c : ℕ) → mixed_pair s a u b t c ≡ g c) → r ≡ padded n (each n g)
-  mixed_is g e = is_r ∙ ap (λ j. padded j (each j (mixed_pair s a u b t))) is_n ∙ ap (padded n) (each_agree n _ g (λ c i j. e c))
+  mixed_is g e = is_r ∙ ap (padded n) (each_agree n _ g (λ c i j. e c))
 
   pub mixed_latest : (k : ℕ) → a.at ≡ row_place n p → b.at ≡ row_place n q → pair_bytes a.own ≡ q ∷ k ∷ [] → pair_bytes b.own ≡ p ∷ k ∷ []
       → r ≡ padded n (each n (latest_pair s u n p q k t))

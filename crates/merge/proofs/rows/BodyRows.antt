@@ -2,14 +2,12 @@
 use Prim.Native.Nat.{ℕ, suc, ◌+◌, ◌-◌, ◌*◌}
 use mathlib.Core.Path.{◌≡◌, refl, ◌∙◌}
 use mathlib.Core.Bool.{Bool, true, false, ◌||◌, cond}
-use mathlib.Core.List.{List, []}
+use mathlib.Core.List.{List}
 use native.Mathlib.Omega.{arith}
 use native.Mathlib.Numerals.{add-one}
 use lib.Dec.{eqb}
 use lib.ListN.{take, drop}
 use Rattle.image.specs.Stalls.{each}
-use Rattle.image.specs.Layout.{largest}
-use Rattle.merge.specs.ByStall.{ByStall}
 use Rattle.merge.specs.Body.{padded, latest_pair, body_row}
 
 -- one list or the other, with zeros behind it
@@ -26,11 +24,3 @@ unfolding body_row
 row_is s u latest x t theirs n p q k at c d e f g =
     let h : suc c - 1 ≡ c = omega arith in
     g ∙ rw (d, e, f, add-one c, h) (padded_choice n _ _ (eqb (suc c) p || eqb (suc c) q))
-
--- the same for numbers that were made wider
-module _ (s u : List ℕ) (t : ℕ → Bool) (k : ℕ) {n m p i q j : ℕ} (e : m ≡ n) (f : i ≡ p) (g : j ≡ q) where
-  pub latest_wider : {latest : List ℕ} → latest ≡ padded n (each n (latest_pair s u n p q k t)) → latest ≡ padded m (each m (latest_pair s u m i j k t))
-  latest_wider h = rw (e, f, g) h
-
-  pub rows_narrower : {rows : List (List ℕ)} → ByStall [] largest m (λ r. padded m (body_row s u m i j k t r)) rows → ByStall [] largest n (λ r. padded n (body_row s u n p q k t r)) rows
-  rows_narrower w = rw (e, f, g) at w

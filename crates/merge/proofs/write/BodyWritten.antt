@@ -1,19 +1,19 @@
--- The rows and yields by value, and the image that they and the order entries are written into.
+-- The rows and yields by value, as they are written.
 use Prim.Native.Nat.{ℕ, ◌+◌, ◌-◌, ◌*◌, ◌≤◌}
-use mathlib.Core.Path.{◌≡◌, refl, sym, ap, ap₂, ◌∙◌}
+use mathlib.Core.Path.{◌≡◌, refl, ap, ◌∙◌}
 use mathlib.Core.Bool.{Bool, ◌||◌}
-use mathlib.Core.List.{List, [], ◌∷◌, ◌++◌}
+use mathlib.Core.List.{List, [], ◌∷◌}
 use native.Mathlib.Omega.{arith}
 use lib.Dec.{eqb}
-use lib.ListN.{length, get_or, take, drop, replicate, length-append, length-drop}
-use lib.Seq.{length-take-le, take_at, drop-append-add}
+use lib.ListN.{length, get_or, take, drop, replicate, length-drop}
+use lib.Seq.{length-take-le, take_at}
 use Rattle.image.specs.Stalls.{each}
-use Rattle.image.specs.Layout.{row_place, yield_place, image_length, orders_place, yields_place, longest_row}
-use Rattle.image.specs.Frame.{Sized, Framed}
-use Rattle.image.proofs.Has.{length_each_to, length_each}
+use Rattle.image.specs.Layout.{row_place, yield_place, image_length, longest_row}
+use Rattle.image.specs.Frame.{Framed}
+use Rattle.image.proofs.Has.{length_each}
 use Rattle.image.proofs.Places.{row_within}
 use Rattle.merge.specs.Body.{source_of, source_stall, pair_at, latest_pair, body_row, body_yield, padded, row_in}
-use Rattle.merge.proofs.pairs.PairRows.{each_agree, length_choice, length_padded}
+use Rattle.merge.proofs.pairs.PairRows.{each_agree, length_choice}
 
 -- what stands before the zeros
 pub take_padded : (n : ℕ) (l : List ℕ) → length l ≡ n * 2 → take (n * 2) (padded n l) ≡ l
@@ -44,12 +44,6 @@ module _ (s u : List ℕ) (n p q k : ℕ) (t : ℕ → Bool) where
   -- rows and yields by value
   module _ (a : Framed s n p) (b : Framed u n q) (rows : List (List ℕ)) (yields : List ℕ)
       (rows_are : (r : ℕ) → 1 ≤ r → r ≤ n → get_or rows (r - 1) [] ≡ padded n (body_row s u n p q k t r)) (yields_are : yields ≡ padded n (each n (body_yield s u n p q t))) where
-    pub rows_long : (r : ℕ) → 1 ≤ r → r ≤ n → length (get_or rows (r - 1) []) ≡ longest_row
-    rows_long r i j = ap length (rows_are r i j) ∙ length_padded n (body_row s u n p q k t r) a.n_to (row_wide a b r i j)
-
-    pub yields_long : length yields ≡ longest_row
-    yields_long = ap length yields_are ∙ length_padded n (each n (body_yield s u n p q t)) a.n_to (length_each 2 (body_yield s u n p q t) yield_wide n)
-
     pub rows_in : each n (row_in rows n) ≡ each n (body_row s u n p q k t)
     rows_in =
         each_agree n (row_in rows n) (body_row s u n p q k t)
@@ -58,37 +52,3 @@ module _ (s u : List ℕ) (n p q k : ℕ) (t : ℕ → Bool) where
     pub yields_in : take (n * 2) yields ≡ each n (body_yield s u n p q t)
     yields_in =
         ap (take (n * 2)) yields_are ∙ take_padded n (each n (body_yield s u n p q t)) (length_each 2 (body_yield s u n p q t) yield_wide n)
-
--- what is written behind a front
-pub paste_behind : (front rest l x : List ℕ) (k w : ℕ) → length front ≡ k → l ≡ front ++ rest → take k l ++ x ++ drop (k + w) l ≡ front ++ x ++ drop w rest
-paste_behind front rest l x k w e g =
-    let f : take k l ≡ front = ap (take k) g ∙ take_at front rest k e in
-    let h : drop (k + w) l ≡ drop w rest = ap₂ (λ j m. drop (j + w) m) (sym e) g ∙ drop-append-add front rest w in
-    rw (f, h)
-
--- rows, yields and order entries by value, written into d one after the other: x has the rows, y the yields too, z all
-module _ (d x y : List ℕ) (n : ℕ) (rows : List (List ℕ)) (yields : List ℕ) (sized : Sized d n)
-    (long : (r : ℕ) → 1 ≤ r → r ≤ n → length (get_or rows (r - 1) []) ≡ longest_row) (yields_long : length yields ≡ longest_row)
-    (x_is : x ≡ take 4 d ++ each n (row_in rows n) ++ drop (yields_place n) d)
-    (y_is : y ≡ take (yields_place n) x ++ take (n * 2) yields ++ drop (orders_place n) x) where
-  abbrev to_yields : List ℕ
-  to_yields = take 4 d ++ each n (row_in rows n)
-
-  abbrev to_orders : List ℕ
-  to_orders = to_yields ++ take (n * 2) yields
-
-  length_to_yields : length to_yields ≡ yields_place n
-  length_to_yields =
-      length-append (take 4 d) (each n (row_in rows n))
-      ∙ omega (arith, length-take-le 4 d (omega (arith, sized.long)), length_each_to (n * 2) (row_in rows n) n (λ r i j. length-take-le (n * 2) (get_or rows (r - 1) []) (omega (arith, long r i j, sized.n_to))))
-
-  length_to_orders : length to_orders ≡ orders_place n
-  length_to_orders =
-      length-append to_yields (take (n * 2) yields) ∙ omega (arith, length_to_yields, length-take-le (n * 2) yields (omega (arith, sized.n_to)))
-
-  pub body_written : (z orders : List ℕ) → z ≡ take (orders_place n) y ++ orders → z ≡ to_orders ++ orders
-  body_written z orders z_is =
-      let k = yields_place n in
-      let rest = drop (n * 2) (drop k d) in
-      let f : y ≡ to_orders ++ rest = y_is ∙ paste_behind to_yields (drop k d) x (take (n * 2) yields) k (n * 2) length_to_yields x_is in
-      z_is ∙ ap (λ t. t ++ orders) (ap (take (orders_place n)) f ∙ take_at to_orders rest (orders_place n) length_to_orders)

@@ -1,15 +1,11 @@
 -- Loops that copy bytes one by one.
-use Prim.Native.Nat.{ℕ, ◌+◌, ◌*◌, ◌≤◌, ◌<◌}
+use Prim.Native.Nat.{ℕ, ◌+◌, ◌<◌, ◌≤◌}
 use mathlib.Core.Path.{◌≡◌, sym, ap, ◌∙◌}
-use mathlib.Core.List.{List, ◌++◌}
+use mathlib.Core.List.{List}
 use native.Mathlib.Omega.{arith}
-use native.Mathlib.Nat.{zero-add}
 use native.Mathlib.Numerals.{add-one}
-use lib.ListN.{length, get_or, take, drop, set, replicate, length-drop}
+use lib.ListN.{length, get_or, drop, set, length-drop}
 use lib.Seq.{paste, paste-suc, get_or-drop}
-use Rattle.image.specs.Layout.{longest_row}
-use Rattle.image.proofs.Zeros.{drop_zeros}
-use Rattle.merge.specs.Body.{padded}
 
 -- one byte more at a place
 pub copy_next : (d t l : List ℕ) (at i : ℕ) → at + i < length d → i < length t → l ≡ paste d at t i → set l (at + i) (get_or t i 0) ≡ paste d at t (i + 1)
@@ -21,16 +17,6 @@ pub copied_next : (d s l : List ℕ) (at from i : ℕ) → at + i < length d →
 copied_next d s l at from i a b e =
     ap (set l (at + i)) (sym (get_or-drop from s i 0)) ∙ copy_next d (drop from s) l at i a (omega (arith, length-drop from s)) e
 
--- all of them
+-- all of them, by whatever loop
 pub pasted_end : (d t l : List ℕ) (at count i : ℕ) → count ≤ i → i ≤ count → l ≡ paste d at t i → l ≡ paste d at t count
 pasted_end d t l at count i a b e = let j : i ≡ count = omega arith in e ∙ ap (paste d at t) j
-
--- one byte more of what stands in s from a place on, at the front
-pub front_next : (d s l : List ℕ) (at i : ℕ) → i < length d → at + i < length s → l ≡ take i (drop at s) ++ drop i d
-    → set l i (get_or s (at + i) 0) ≡ take (i + 1) (drop at s) ++ drop (i + 1) d
-front_next d s l at i a b e =
-    rw (add-one, e, ← get_or-drop at s i 0) (simp zero-add at (paste-suc d 0 (drop at s) i 0 (omega arith) (omega (arith, length-drop at s))))
-
-pub front_end : (s l : List ℕ) (at i n : ℕ) → i ≡ n * 2 → l ≡ take i (drop at s) ++ drop i (replicate longest_row 0) → l ≡ padded n (take (n * 2) (drop at s))
-front_end s l at i n e g =
-    g ∙ ap (λ k. take k (drop at s) ++ drop k (replicate longest_row 0)) e ∙ ap (λ r. take (n * 2) (drop at s) ++ r) (drop_zeros (n * 2) longest_row)

@@ -1,18 +1,18 @@
 -- One own row against the other.
-use Rattle.std.proofs.Common.{◌≡◌, ◌+◌, ◌-◌, ◌*◌, ◌≤◌, not}
+use Rattle.std.proofs.Common.{◌≡◌, ◌+◌, ◌*◌, not}
+use Rattle.image.specs.Layout.{row_place}
 use Rattle.image.specs.Row.{is_never}
-use Rattle.image.proofs.Gather.{Bit, Gathered}
 use Rattle.merge.specs.Known.{common}
 use Rattle.merge.specs.Verdict.{same_name}
 use Rattle.merge.specs.Views.{row_name}
 use Rattle.merge.proofs.known.view.Given as goal
+use Rattle.image.proofs.Gather.{Bit, Gathered}
 
 abbrev pub invariant-loop-c : goal.invariant-loop-c
 invariant-loop-c l =
-    (l.c ≤ l.n + 1) × (l.here ≡ l.fn.a + (l.c - 1) * 2) × (l.there ≡ l.fn.b + (l.c - 1) * 2) × Bit l.one l.c
-    × Gathered l.c l.common (common l.n (row_name l.mine l.fn.a) (row_name l.theirs l.fn.b))
-    × Gathered l.c l.heard (λ c. not (is_never (row_name l.mine l.fn.a c)))
-    × Gathered l.c l.same (λ c. same_name (row_name l.mine l.fn.a c) (row_name l.theirs l.fn.b c))
-
-abbrev pub decreases-loop-c : goal.decreases-loop-c
-decreases-loop-c l = l.n + 1 - l.c
+    let mine = row_name l.mine.bytes.now (row_place l.mine.n l.mine.own) in
+    let theirs = row_name l.theirs.bytes.now (row_place l.mine.n l.theirs.own) in
+    (l.here ≡ row_place l.mine.n l.mine.own + l.c * 2) × (l.there ≡ row_place l.mine.n l.theirs.own + l.c * 2) × Bit l.one (l.c + 1)
+    × Gathered (l.c + 1) l.common (common l.mine.n mine theirs)
+    × Gathered (l.c + 1) l.heard (λ c. not (is_never (mine c)))
+    × Gathered (l.c + 1) l.same (λ c. same_name (mine c) (theirs c))

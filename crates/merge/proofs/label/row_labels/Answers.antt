@@ -14,4 +14,4 @@ both s row p q a b x y i j d e =
     ap₂ bit_or (d ∙ ap (λ c. label_set (name_has s row c q)) i) (e ∙ ap (λ c. label_set (name_has s row c p)) j) ∙ set_or (name_has s row p q) (name_has s row q p)
 
 pub returns : goal.returns
-returns c = both c.args.image.now c.args.row _ _ _ _ _ _ c.wide.ensures.0 c.wide-2.ensures.0 c.label_of.ensures c.label_of-2.ensures
+returns c = both c.args.image.now c.args.row _ _ _ _ _ _ c.from.ensures c.from-2.ensures c.label_of.ensures c.label_of-2.ensures

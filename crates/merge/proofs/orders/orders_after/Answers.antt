@@ -6,6 +6,6 @@ use Rattle.merge.proofs.orders.orders_after.Goals as goal
 pub returns : goal.returns
 returns c =
     let a = c.args in
-    let x = a.x in
-    ordered a.first.now a.second.now x.n c.wide.result x.p x.q c.sorted.result _ c.wide.ensures.0 c.requires.framed.0.n_to
-    (sorted_is x.n x.p _ x.q _ a.d _ c.requires.decides c.sorted.ensures) c.merged_orders.ensures
+    let x = a.x.now in
+    ordered x.first.bytes.now x.second.bytes.now x.first.n x.first.own x.second.own c.sorted.result _ x.first.framed.n_to
+    (sorted_is x.first.n x.first.own _ x.second.own _ a.d _ c.requires c.sorted.ensures) c.merged_orders.ensures

@@ -9,16 +9,17 @@ use Rattle.merge.proofs.pairs.mixed.Goals as goal
 
 pub loop-c-init : goal.loop-c-init
 unfolding each
-loop-c-init c = (omega arith, refl, refl)
+loop-c-init c = (refl, refl)
 
 pub loop-c-preserved : goal.loop-c-preserved
 unfolding each
 loop-c-preserved c =
     let a = c.args in
     let l = c.loop-c in
-    let pair = mixed_pair a.first.now a.a a.second.now a.b (has a.two) in (
-      omega arith,
-      simp length-set l.invariant.1,
-      pairs_next pair (mixed_wide a.first.now a.a a.second.now a.b (has a.two)) l.row l.c c.pick-x.result.high c.pick-x.result.low (omega arith) l.invariant.2
-          (mixed_at a.first.now a.a a.second.now a.b (has a.two) l.c _ c.pick-x.result c.has_stall.ensures c.pick-x.ensures),
+    let s = a.x.now.first.bytes.now in
+    let u = a.x.now.second.bytes.now in
+    let pair = mixed_pair s a.a u a.b (has a.two) in (
+      simp length-set l.invariant.0,
+      pairs_next pair (mixed_wide s a.a u a.b (has a.two)) l.row l.c c.pick-pair.result.high c.pick-pair.result.low (omega (arith, a.x.now.first.framed.n_to, c.from-c-end.ensures)) l.invariant.1
+          (mixed_at s a.a u a.b (has a.two) l.c _ c.pick-pair.result c.has_stall.ensures c.pick-pair.ensures),
     )

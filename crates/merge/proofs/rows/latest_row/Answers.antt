@@ -7,4 +7,5 @@ use Rattle.merge.proofs.rows.latest_row.Goals as goal
 pub returns : goal.returns
 returns c =
     let a = c.args in
-    mixed_latest a.first.now a.second.now _ (has a.two) _ _ _ _ _ _ c.wide-3.ensures.0 c.wide.ensures.0 c.wide-2.ensures.0 c.mixed.ensures a.k c.row_place.ensures c.row_place-2.ensures refl refl
+    let x = a.x.now in
+    mixed_latest x.first.bytes.now x.second.bytes.now _ (has a.two) _ _ _ _ _ c.from.ensures c.from-2.ensures c.mixed.ensures a.k c.row_place.ensures c.row_place-2.ensures refl refl

@@ -1,18 +1,15 @@
--- The bytes of n names from a place on.
-use native.Mathlib.Omega.{arith}
-use lib.ListN.{replicate, length-set}
-use Rattle.image.specs.Layout.{longest_row}
-use Rattle.merge.proofs.write.Copies.{front_next, front_end}
+-- The bytes of n names from a place on, zeros behind them.
+use Rattle.std.proofs.Common.{◌≡◌, ℕ, List, ◌+◌, ◌-◌, ◌*◌, ◌++◌, take, drop, replicate, arith, ap, ap₂, ◌∙◌, rules}
+use Rattle.std.proofs.lemmas.List.{drop-replicate}
 use Rattle.merge.proofs.rows.row_of.Goals as goal
 
-pub loop-i-preserved : goal.loop-i-preserved
-loop-i-preserved c =
-    let a = c.args in
-    let l = c.loop-i in (
-      omega arith,
-      simp length-set l.invariant.1,
-      front_next (replicate longest_row 0) a.image.now l.row a.at l.i (omega arith) (omega arith) l.invariant.2,
-    )
+zeros : (n m : ℕ) → n + n ≡ m * 2 → drop {A = ℕ} (n + n) (replicate {A = ℕ} 32 0) ≡ replicate {A = ℕ} (32 - m * 2) 0
+zeros n m e = drop-replicate {X = ℕ} (n + n) 32 0 ∙ ap (λ k. replicate {A = ℕ} (32 - k) 0) e
 
 pub returns : goal.returns
-returns c = front_end c.args.image.now c.loop-i.row c.args.at c.loop-i.i c.args.n (omega arith) c.loop-i.invariant.2
+returns c =
+    let n = c.from-n.result in
+    let x = c.args.x.now in
+    let e : n + n ≡ x.n * 2 = omega (arith, c.from-n.ensures) in
+    let first : c.copy_from_slice.new.self ≡ take (x.n * 2) (drop c.args.at x.bytes.now) = search (rules, e) in
+    ap₂ (λ (a b : List ℕ). a ++ b) first (zeros n x.n e)

@@ -1,13 +1,10 @@
 -- The rows of n stalls.
-use Rattle.std.proofs.Common.{◌≡◌, ◌+◌, ◌-◌, ◌*◌, ◌≤◌, length}
+use Rattle.std.proofs.Common.{◌≡◌, ◌+◌, ◌*◌, length}
 use Rattle.image.proofs.Blocks.{blocks}
 use Rattle.merge.specs.Body.{row_in}
 use Rattle.merge.proofs.write.write_rows.Given as goal
 
-abbrev pub invariant-loop-c : goal.invariant-loop-c
-invariant-loop-c l =
-    (l.c ≤ l.n) × (l.at ≡ 4 + l.c * (l.n + l.n)) × (l.image ≡ blocks l.initial.image 4 (l.n + l.n) (row_in l.rows l.n) l.c)
+abbrev pub invariant-loop-row : goal.invariant-loop-row
+invariant-loop-row l =
+    (l.at ≡ 4 + l.row-index * (l.n + l.n)) × (l.image ≡ blocks l.initial.image 4 (l.n + l.n) (row_in l.fn.rows l.n) l.row-index)
     × (length l.image ≡ length l.initial.image)
-
-abbrev pub decreases-loop-c : goal.decreases-loop-c
-decreases-loop-c l = l.n - l.c

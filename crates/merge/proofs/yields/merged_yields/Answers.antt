@@ -7,6 +7,8 @@ use Rattle.merge.proofs.yields.merged_yields.Goals as goal
 pub returns : goal.returns
 returns c =
     let a = c.args in
-    let m_is = c.wide-m.ensures.0 in
-    mixed_yields a.first.now a.second.now _ (has a.two) _ _ _ _ _ _ m_is c.wide.ensures.0 c.wide-2.ensures.0 c.mixed.ensures
-    (yields_from_lem c.requires.0.long m_is c.yields_place.ensures) (yields_from_lem c.requires.1.long m_is c.yields_place-2.ensures) c.pair_at.ensures c.pair_at-2.ensures
+    let x = a.x.now in
+    let n_is = c.from-n.ensures in
+    mixed_yields x.first.bytes.now x.second.bytes.now _ (has a.two) _ _ _ _ _ c.from.ensures c.from-2.ensures c.mixed.ensures
+    (yields_from_lem x.first.framed.long n_is c.yields_place.ensures) (yields_from_lem (rw (← x.one_size) at x.second.framed.long) n_is c.yields_place-2.ensures)
+    c.pair_at.ensures c.pair_at-2.ensures
