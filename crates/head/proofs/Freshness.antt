@@ -4,7 +4,7 @@ use mathlib.Core.Path.{◌≡◌, refl, sym, ap, ◌∙◌}
 use mathlib.Core.Bool.{Bool, true, false, not}
 use mathlib.Core.List.{List}
 use native.Mathlib.Omega.{arith}
-use borrow.Author.Tests.{eq-eqb, ne_eqb, le-leb}
+use borrow.Author.Tests.{eq-eqb, le-leb}
 use lib.Dec.{eqb}
 use lib.ListN.{length}
 use Rattle.image.specs.Layout.{largest, is_count, length_of}
@@ -12,7 +12,7 @@ use Rattle.image.specs.Fresh.{fresh_image, fresh_in}
 use Rattle.image.specs.Check.{bad_stall}
 use Rattle.image.proofs.Stages.{in_range}
 use Rattle.image.proofs.FreshTable.{fresh_alone}
-use Rattle.head.specs.Calls.{Outcome, refused, accepted, fresh_into, fresh_call}
+use Rattle.head.specs.Calls.{Outcome, accepted, fresh_into, fresh_call}
 
 -- By what the tests find: answered 0, it is the image; else the buffer stays
 
@@ -35,27 +35,13 @@ into_same false true z image s other u = refl
 into_same false false true image s other u = refl
 into_same false false false image s other u = refl
 
+-- Over all of a run of its length the image stands alone
+pub fresh_whole : {out : List ℕ} {long : ℕ} (n stall : ℕ) → is_count n ≡ true → long ≡ length_of n → out ≡ fresh_in long n stall → out ≡ fresh_image n stall
+fresh_whole n stall a e w =
+    let (p, q) = in_range 2 largest n (ap not a) in
+    w ∙ ap (λ k. fresh_in k n stall) e ∙ fresh_alone n stall p q
+
 module _ (s : List ℕ) (n stall : ℕ) where
-  pub fresh_1 : not (is_count n) ≡ true → refused 1 s ≡ fresh_call s n stall
-  unfolding fresh_call
-  fresh_1 a = rw a
-
-  pub fresh_2 : not (is_count n) ≡ false → (length s ≡ length_of n → ⊥) → refused 2 s ≡ fresh_call s n stall
-  unfolding fresh_call
-  fresh_2 a b = rw (a, ne_eqb (length s) (length_of n) b)
-
-  pub fresh_3 : not (is_count n) ≡ false → length s ≡ length_of n → bad_stall n stall ≡ true → refused 3 s ≡ fresh_call s n stall
-  unfolding fresh_call
-  fresh_3 a b c = rw (a, eq-eqb (length s) (length_of n) b, c)
-
-  pub fresh_done : (out : List ℕ) → not (is_count n) ≡ false → length s ≡ length_of n → bad_stall n stall ≡ false → out ≡ fresh_in (length s) n stall
-      → accepted out ≡ fresh_call s n stall
-  unfolding fresh_call
-  fresh_done out a b c d =
-      let (p, q) = in_range 2 largest n a in
-      rw (a, eq-eqb (length s) (length_of n) b, c)
-      (ap accepted (d ∙ ap (λ k. fresh_in k n stall) b ∙ fresh_alone n stall p q))
-
   -- For callers: none of 1 to 3 applies ..
   pub fresh_taken : 2 ≤ n → n ≤ largest → length s ≡ length_of n → 1 ≤ stall → stall ≤ n → accepted (fresh_image n stall) ≡ fresh_call s n stall
   unfolding fresh_call
@@ -67,3 +53,5 @@ module _ (s : List ℕ) (n stall : ℕ) where
   fresh_zero out e =
       ap (λ o. o.image) e
       ∙ into_zero (not (is_count n)) (not (eqb (length s) (length_of n))) (bad_stall n stall) (fresh_image n stall) s (sym (ap (λ o. o.answer) e))
+
+pub ruleset fresh_ones = (fresh_whole)

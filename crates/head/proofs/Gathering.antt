@@ -21,9 +21,9 @@ pub record Gathering (s : List ℕ) (yields : ℕ) (row : List Entry) (n : ℕ) 
   pub long : length records ≡ largest
   pub so_far : take count records ≡ records_to s yields row r
 
-pub gathering_start : (s : List ℕ) (yields : ℕ) (row : List Entry) (n : ℕ) (d : Record) → Gathering s yields row n (replicate largest d) 0 yields 0
+pub gathering_start : (s : List ℕ) (yields : ℕ) (row : List Entry) (n : ℕ) (d : Record) {at : ℕ} → at ≡ yields → Gathering s yields row n (replicate largest d) 0 at 0
 unfolding records_to chosen
-gathering_start s yields row n d = record { to = omega arith; stands = omega arith; few = omega arith; long = length-replicate largest d; so_far = refl }
+gathering_start s yields row n d e = record { to = omega arith; stands = omega arith; few = omega arith; long = length-replicate largest d; so_far = refl }
 
 module _ {s : List ℕ} {yields : ℕ} {row : List Entry} {n : ℕ} {records : List Record} {count at r : ℕ} (w : Gathering s yields row n records count at r) (l : r < n) (m : n ≤ largest) where
   abbrev next : Record
@@ -60,9 +60,3 @@ module _ {s : List ℕ} {yields : ℕ} {row : List Entry} {n : ℕ} {records : L
       one : (t : Bool) → cond t 1 0 ≤ 1
       one true = omega arith
       one false = omega arith
-
-pub gathering_end : {s : List ℕ} {yields : ℕ} {row : List Entry} {n : ℕ} {records : List Record} {count at r : ℕ} → Gathering s yields row n records count at r → n ≤ r
-    → (count ≤ n) × (length records ≡ largest) × (take count records ≡ records_to s yields row n)
-gathering_end {s} {yields} {row} {n} {r = r} w l =
-    let e : r ≡ n = omega (arith, w.to) in
-    (omega (arith, w.few), w.long, w.so_far ∙ ap (records_to s yields row) e)

@@ -4,7 +4,9 @@ use mathlib.Core.Path.{◌≡◌}
 use mathlib.Core.List.{List}
 use borrow.Author.Tests.{eq-eqb, ne_eqb}
 use lib.ListN.{length}
+use Rattle.image.specs.Frame.{Framed}
 use Rattle.image.proofs.Stages.{number_le}
+use Rattle.image.proofs.Accepted.{accepted}
 use Rattle.image.specs.Check.{checked}
 use Rattle.image.specs.declared.Header.{Header}
 use Rattle.image.specs.declared.Checked.TheVariants.{Good, Refused}
@@ -24,5 +26,9 @@ module _ (s buffer : List ℕ) where
   unfolding heard_from
   heard_accepted {h} e i = rw (e, eq-eqb (length buffer) (3 * h.n) i)
 
+-- what passes the check may be read
+pub good_framed : {s : List ℕ} {h : Header} → checked s ≡ Good h → Framed s h.n h.stall
+good_framed {s} {h} e = (accepted s h e).frame
+
 -- what an accepted image is, and what numbers refusals have
-pub ruleset accepts = (number_le)
+pub ruleset accepts = (number_le, good_framed)

@@ -44,10 +44,6 @@ counts_end s buffer out n r a b long so_far =
 -- The call, by what the check answers and by the buffer
 
 module _ (s buffer : List ℕ) where
-  pub settled_refused : {x : Checked} {k code : ℕ} → x ≡ Refused k → code ≡ k → ◌≡◌ {A = Settled} (record { answer = code; counts = buffer }) (settled_from s buffer x)
-  unfolding settled_from
-  settled_refused e i = rw (e, i)
-
   pub settled_short : {x : Checked} {h : Header} → x ≡ Good h → (length buffer ≡ h.n → ⊥) → ◌≡◌ {A = Settled} (record { answer = 8; counts = buffer }) (settled_from s buffer x)
   unfolding settled_from
   settled_short {h = h} e f = rw (e, ne_eqb (length buffer) h.n f)

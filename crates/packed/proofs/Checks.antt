@@ -49,21 +49,6 @@ pub packable_checked_lem : (p : List ℕ) → get_or p 0 0 ≤ largest_packed �
 unfolding packable_checked checked
 packable_checked_lem p l = ap (λ b. cond b (Refused 1) (checked p)) (plain_same p l) ∙ twice (bad_count p) (cond (bad_length p) (Refused 2) (check_body p (get_or p 0 0) (get_or p 1 0)))
 
--- by the tests of the code
-module _ (p : List ℕ) where
-  pub packable_empty : length p ≡ 0 → Refused 1 ≡ packable_checked p
-  unfolding packable_checked bad_packed_count
-  packable_empty e = rw (eq-eqb (length p) 0 e)
-
-  module _ (some : length p ≡ 0 → ⊥) where
-    pub packable_over : not (is_packed_count (get_or p 0 0)) ≡ true → Refused 1 ≡ packable_checked p
-    unfolding packable_checked bad_packed_count
-    packable_over e = rw (ne_eqb (length p) 0 some, e)
-
-    pub packable_plain : not (is_packed_count (get_or p 0 0)) ≡ false → checked p ≡ packable_checked p
-    unfolding packable_checked bad_packed_count
-    packable_plain e = rw (ne_eqb (length p) 0 some, e)
-
 -- what is good then passes the plain check, with N that of a packed table
 pub packable_good : (p : List ℕ) {h : Header} → packable_checked p ≡ Good h → (checked p ≡ Good h) × (h.n ≤ largest_packed)
 packable_good p {h} e = elim (dec_le (get_or p 0 0) largest_packed) [
@@ -188,14 +173,8 @@ good_packed p {h} e =
       unpacks = w;
     }
 
--- so it has an unpacked form
-pub good_unpacked : (p : List ℕ) {h : Header} → packed_checked p ≡ Good h → unpacked_of h.n p ≡ unpacked p
-good_unpacked p e =
-    let w = good_packed p e in
-    ap (λ n. unpacked_of n p) (sym w.count) ∙ sym (unpacked_is p (subst (λ n. n ≤ largest_packed) (sym w.count) w.few))
-
 -- it has its header
 pub good_long : (p : List ℕ) {h : Header} → packed_checked p ≡ Good h → 4 < length p
 good_long p e = let w = good_packed p e in omega (arith, w.long, w.unpacks.frame.n_from)
 
-pub ruleset plains = (checked_plain)
+pub ruleset plains = (checked_plain, good_long)

@@ -1,13 +1,13 @@
 -- A fresh packed image is the packed form of the plain one, and the call that makes it answers the same.
 use Prim.Native.Nat.{ℕ, ◌≤◌, ◌<◌}
 use mathlib.Core.Path.{◌≡◌, sym, ap, ap₂, subst, ◌∙◌}
-use mathlib.Core.Bool.{true, false, not}
-use mathlib.Core.List.{List, ◌++◌}
+use mathlib.Core.Bool.{true, not}
+use mathlib.Core.List.{List}
 use native.Mathlib.Omega.{arith}
-use borrow.Author.Tests.{eq-eqb, ne_eqb, le-leb, lt-leb}
+use borrow.Author.Tests.{eq-eqb, le-leb, lt-leb}
 use lib.Dec.{eqb}
-use lib.ListN.{length, take, drop, length-append}
-use lib.Seq.{length-take-le, take_at}
+use lib.ListN.{length, get_or, take}
+use lib.Seq.{length-take-le}
 use Rattle.image.specs.Layout.{is_count, length_of}
 use Rattle.image.specs.Encode.{nothing}
 use Rattle.image.specs.Fresh.{fresh_image, fresh_in}
@@ -22,8 +22,9 @@ use Rattle.head.specs.Calls.{Outcome, refused, accepted, fresh_call}
 use Rattle.head.proofs.Freshness.{into_zero, into_refused, into_same}
 use Rattle.packed.specs.Form.{largest_packed, is_packed_count, longest_unpacked, packed_length, packed_image_length, packed_image, packed, unpacked}
 use Rattle.packed.specs.Calls.{packed_fresh_call}
-use Rattle.packed.specs.Bytes.{packed_of}
-use Rattle.packed.proofs.Sizes.{packed_length_is, packed_few, plain_short, same_count}
+use Rattle.packed.specs.Bytes.{packed_of, plain_of}
+use Rattle.packed.proofs.Checks.{plain_unpacked}
+use Rattle.packed.proofs.Sizes.{PackedSized, packed_sized, packed_length_is, packed_few, plain_short, same_count}
 use Rattle.packed.proofs.Forms.{unpacked_image, packed_encode}
 use Rattle.packed.proofs.SmallImages.{packed_image_lem}
 
@@ -62,60 +63,43 @@ module _ (s : List ℕ) (n stall : ℕ) where
   unfolding packed_fresh_call
   fresh_taken i j e k l = rw (eq-eqb (length s) (packed_length n) e, le-leb 2 n i, le-leb n largest_packed j, le-leb 1 stall k, le-leb stall n l)
 
-  -- By the tests in their order, for the code
+-- The code writes the fresh image into the first bytes of a room, has m for n, and packs it
 
-  pub fresh_1 : not (is_packed_count n) ≡ true → refused 1 s ≡ packed_fresh_call s n stall
-  unfolding packed_fresh_call
-  fresh_1 a = rw a
+module _ (n stall m long : ℕ) (room : List ℕ) (count : is_packed_count n ≡ true) (m_is : m ≡ n) (long_is : long ≡ length_of m) (room_is : length room ≡ longest_unpacked) where
+  n_in : (2 ≤ n) × (n ≤ largest_packed)
+  n_in = in_range 2 largest_packed n (ap not count)
 
-  module _ (count : not (is_packed_count n) ≡ false) where
-    pub fresh_2 : (length s ≡ packed_length n → ⊥) → refused 2 s ≡ packed_fresh_call s n stall
-    unfolding packed_fresh_call
-    fresh_2 b = rw (count, ne_eqb (length s) (packed_length n) b)
+  long_n : long ≡ length_of n
+  long_n = long_is ∙ ap length_of m_is
 
-    pub fresh_3 : length s ≡ packed_length n → bad_stall n stall ≡ true → refused 3 s ≡ packed_fresh_call s n stall
-    unfolding packed_fresh_call
-    fresh_3 b c = rw (count, eq-eqb (length s) (packed_length n) b, c)
+  pub fresh_fits : long ≤ length room
+  fresh_fits = omega (arith, room_is, long_n, length_is n n_in.0 (packed_few n_in.1), plain_short n_in.1)
 
-    pub fresh_done : length s ≡ packed_length n → bad_stall n stall ≡ false → (out : List ℕ) → out ≡ packed_image n stall nothing → accepted out ≡ packed_fresh_call s n stall
-    unfolding packed_fresh_call
-    fresh_done b c out e = rw (count, eq-eqb (length s) (packed_length n) b, c, e)
+  pub fresh_long : (s : List ℕ) → length s ≡ packed_length n → length s ≡ packed_image_length m
+  fresh_long s e = e ∙ rw m_is (packed_length_is n n_in.0 n_in.1)
 
-    -- what is packed: the fresh image, in the first bytes of a room
-    module _ (m long : ℕ) (room : List ℕ) (m_is : m ≡ n) (long_is : long ≡ length_of m) (room_is : length room ≡ longest_unpacked) where
-      n_in : (2 ≤ n) × (n ≤ largest_packed)
-      n_in = in_range 2 largest_packed n count
+  module _ (head : Head) (out : List ℕ) (head_is : head ≡ record { n = n; stall = stall }) (out_is : out ≡ fresh_in (length (take long room)) head.n head.stall) where
+    out_fresh : out ≡ fresh_image n stall
+    out_fresh =
+        out_is
+        ∙ ap₂ (λ k h. fresh_in k h.n h.stall) (length-take-le long room fresh_fits ∙ long_n) head_is
+        ∙ fresh_alone n stall n_in.0 (packed_few n_in.1)
 
-      long_n : long ≡ length_of n
-      long_n = long_is ∙ ap length_of m_is
+    pub fresh_sized : Sized out m
+    fresh_sized =
+        subst (Sized out) (sym m_is)
+        (record { n_from = n_in.0; n_to = packed_few n_in.1; long = ap length out_fresh ∙ length_fresh n stall n_in.0 (packed_few n_in.1) ∙ length_is n n_in.0 (packed_few n_in.1) })
 
-      pub fresh_fits : long ≤ length room
-      fresh_fits = omega (arith, room_is, long_n, length_is n n_in.0 (packed_few n_in.1), plain_short n_in.1)
+    pub fresh_packed : packed_of m out ≡ packed_image n stall nothing
+    unfolding fresh_image
+    fresh_packed = ap₂ packed_of m_is out_fresh ∙ packed_encode n stall nothing n_in.1 (nothing_made n stall)
 
-      pub fresh_long : length s ≡ packed_length m → length s ≡ packed_image_length m
-      fresh_long e = e ∙ rw m_is (packed_length_is n n_in.0 n_in.1)
-
-      module _ (head : Head) (out : List ℕ) (head_is : head ≡ record { n = n; stall = stall }) (out_is : out ≡ fresh_in (length (take long room)) head.n head.stall) where
-        out_fresh : out ≡ fresh_image n stall
-        out_fresh =
-            out_is
-            ∙ ap₂ (λ k h. fresh_in k h.n h.stall) (length-take-le long room fresh_fits ∙ long_n) head_is
-            ∙ fresh_alone n stall n_in.0 (packed_few n_in.1)
-
-        out_long : length out ≡ long
-        out_long = ap length out_fresh ∙ length_fresh n stall n_in.0 (packed_few n_in.1) ∙ sym long_n
-
-        pub fresh_fits_back : long ≤ length (out ++ drop long room)
-        fresh_fits_back = omega (arith, length-append out (drop long room), out_long)
-
-        back_is : take long (out ++ drop long room) ≡ out
-        back_is = take_at out (drop long room) long out_long
-
-        pub fresh_sized : Sized (take long (out ++ drop long room)) m
-        fresh_sized =
-            subst (Sized (take long (out ++ drop long room))) (sym m_is)
-            (record { n_from = n_in.0; n_to = packed_few n_in.1; long = ap length back_is ∙ out_long ∙ long_n ∙ length_is n n_in.0 (packed_few n_in.1) })
-
-        pub fresh_packed : packed_of m (take long (out ++ drop long room)) ≡ packed_image n stall nothing
-        unfolding fresh_image
-        fresh_packed = ap₂ packed_of m_is (back_is ∙ out_fresh) ∙ packed_encode n stall nothing n_in.1 (nothing_made n stall)
+-- and its image is the fresh one
+pub fresh_reads : (s : List ℕ) (n stall : ℕ) → is_packed_count n ≡ true → length s ≡ packed_length n → s ≡ packed_image n stall nothing → plain_of s ≡ fresh_image n stall
+unfolding packed_image fresh_image
+fresh_reads s n stall count long is =
+    let (a, b) = in_range 2 largest_packed n (ap not count) in
+    let first : n ≡ get_or s 0 0 = sym (ap (λ l. get_or l 0 0) is) in
+    let sized : PackedSized s (get_or s 0 0) = subst (PackedSized s) first (record { n_from = a; n_to = b; long = long ∙ packed_length_is n a b }) in
+    let (e, f) = (packed_sized s).1 sized in
+    plain_unpacked s e f ∙ ap unpacked is ∙ unpacked_image n stall nothing b (nothing_made n stall)

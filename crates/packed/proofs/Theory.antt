@@ -18,7 +18,7 @@ use Rattle.packed.specs.Calls.{packed_milking_call, packed_meeting_call}
 use Rattle.packed.specs.Theory.{PackedPasses, Theory}
 use Rattle.packed.proofs.Forms.{packed_encodes, packed_unpacked}
 use Rattle.packed.proofs.Unpacked.{unpacked_packed}
-use Rattle.packed.proofs.Checks.{over_packed, over_packable, packable_checked_lem, good_packed, checked_unpacked}
+use Rattle.packed.proofs.Checks.{over_packed, over_packable, packable_checked_lem, good_packed, checked_unpacked, checked_plain}
 use Rattle.packed.proofs.OwnNumber.{own_number}
 use Rattle.packed.proofs.FreshPacked.{packed_fresh, fresh_same, fresh_over, fresh_zero, fresh_refused}
 use Rattle.packed.proofs.MilkedPacked.{milking_same, milking_refused}
@@ -43,6 +43,8 @@ theory =
       pack_unpack = λ s n own e. packed_unpacked (accepted s _ e);
       unpack_pack = λ s n own e. let w = good_packed s e in unpacked_packed s w.unpacks w.long;
       unpacked_checked = checked_unpacked;
+      plain_checked = checked_plain;
+      plain_passes = λ s n own e. (good_packed s e).plain;
       packed_checked_lem = packed_checked_lem;
       over_packed = over_packed;
       over_packable = over_packable;

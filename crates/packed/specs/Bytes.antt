@@ -1,4 +1,4 @@
--- What the functions behind the calls say to each other. No caller sees this.
+-- What the functions behind the calls say to each other. Of this callers see `plain_of` alone, which the form `Packed` has for the image of a table.
 use Rattle.std.specs.Prelude.{ℕ, ◌%◌, cond, List, [], ◌∷◌, ◌++◌, get_or, take, drop}
 use Rattle.image.specs.Stalls.{each}
 use Rattle.image.specs.Layout.{name_at, yields_place}

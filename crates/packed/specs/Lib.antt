@@ -4,5 +4,5 @@ pub mod Check
 pub mod Calls
 pub mod Examples
 pub mod Theory
--- What the functions behind the calls say to each other. No caller sees this.
+-- What the functions behind the calls say to each other, and the image that `Packed` has of a table.
 pub mod Bytes

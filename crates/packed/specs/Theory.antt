@@ -12,6 +12,7 @@ use Rattle.head.specs.Heard.{heard_call}
 use Rattle.head.specs.Settled.{settled_call}
 use Rattle.packed.specs.Form.{labels, largest_packed, packed_length, packed_place, packed_image, packed, unpacked}
 use Rattle.packed.specs.Check.{bad_packed_count, bad_packed_length, packed_checked, packable_checked}
+use Rattle.packed.specs.Bytes.{plain_of}
 use Rattle.packed.specs.Calls.{packed_fresh_call, packed_milking_call, packed_heard_call, packed_settled_call, packed_meeting_call}
 
 -- the packed image passes, as that of the head at stall own of n heads
@@ -25,6 +26,9 @@ pub record Theory : Type 0 where
   pub unpack_pack : (s : List ℕ) (n own : ℕ) → PackedPasses s n own → ((k : ℕ) → get_or s k 0 < 256) → packed (unpacked s) ≡ s
   -- "unpacking refuses what 01's checks refuse of the unpacked form": it is refused with the same number, or accepted with the same header.
   pub unpacked_checked : (s : List ℕ) → checked (unpacked s) ≡ packed_checked s
+  -- What `Packed` hands to the calls in the place of a packed image is checked alike, and of one that passes it is the unpacked form.
+  pub plain_checked : (s : List ℕ) → checked (plain_of s) ≡ packed_checked s
+  pub plain_passes : (s : List ℕ) (n own : ℕ) → PackedPasses s n own → plain_of s ≡ unpacked s
   -- The packed form of an image that passes, passes.
   pub packed_checked_lem : (s : List ℕ) (n own : ℕ) → Passes s n own → n ≤ largest_packed → PackedPasses (packed s) n own
   -- Request 2026-09: "a packed table over 8 is still number 1, and so is a plain one over 8 that is to be packed". Up to 8 the latter is checked as any plain one.

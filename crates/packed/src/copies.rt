@@ -2,14 +2,13 @@
 ghost use Rattle.std.specs.Prelude.{◌≡◌, ◌+◌, ◌≤◌, length, drop};
 ghost use Rattle.std.proofs.Math.Seq.{paste};
 
-// What stands in a run from a place on, to a place of another.
+// What stands in a run from a place on, to a place of another. A loop: with `copy_from_slice` the check, the heard list and the numbers of
+// packed tables took 1.06 to 1.19 of the time before at two to six heads (0.8 at eight), with the loop 0.92 to 1.05.
 pub(crate) fn copy(to: &mut [u8], at: usize, from: &[u8], start: usize, count: usize)
     requires { (at + count ≤ length to.old) × (start + count ≤ length from.now) }
     ensures { to.new ≡ paste to.old at (drop start from.now) count }
 {
-    let mut i = 0usize;
-    while i < count {
+    for i in 0..count {
         to[at + i] = from[start + i];
-        i += 1;
     }
 }

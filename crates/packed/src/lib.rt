@@ -11,16 +11,14 @@ ghost use Rattle.packed.specs.Form.{is_packed_count, packed_length};
 ghost use Rattle.packed.specs.Check.{packed_checked, packable_checked};
 ghost use Rattle.packed.specs.Calls.{pack_call, unpack_call, packed_fresh_call, packed_milking_call, packed_heard_call, packed_settled_call, packed_meeting_call};
 
-use crate::pack::pack_image;
-use crate::plain::{check_into, heard_into, meet_into, room, settled_into};
-use crate::unpack::{plain_length, unpack_image};
-use image::bytes::wide;
-use image::{Checked, Head};
+use crate::pack::{pack_both, pack_image};
+use crate::unpack::unpack_into;
+use head::form::{self, Form};
+use image::{Checked, Head, Refusal};
 
 mod copies;
 mod name_bytes;
 mod pack;
-mod plain;
 mod unpack;
 
 // The most heads of a parlour whose tables can be packed, and the bytes of their plain image.
@@ -33,6 +31,7 @@ const UNPACKED: usize = 4 + 2 * PACKED_STALLS * PACKED_STALLS + 3 * PACKED_STALL
 // Lengths of packed images by the number of stalls.
 const PACKED_LENGTHS: [usize; PACKED_STALLS + 1] = [0, 0, 14, 22, 32, 44, 58, 74, 92];
 
+// This and the length stand beside the form's, which call them: the pages name both.
 // n is not that of a parlour whose tables can be packed.
 pub fn bad_packed_count(n: u8) -> bool
     ensures { result ≡ not (is_packed_count n) }
@@ -52,13 +51,64 @@ pub fn packed_length_of(n: usize) -> usize
     }
 }
 
+// Stored with one byte a name.
+pub struct Packed;
+
+impl Form for Packed {
+    ghost use Rattle.image.specs.Encode.{nothing};
+    ghost use Rattle.packed.specs.Bytes.{plain_of};
+    ghost use Rattle.packed.specs.Form.{packed_image};
+
+    ghost plain = { plain_of };
+
+    ghost is_count = { is_packed_count };
+
+    ghost length_of = { packed_length };
+
+    ghost fresh = { λ n stall. packed_image n stall nothing };
+
+    type Room = [u8; UNPACKED];
+
+    fn room() -> [u8; UNPACKED] {
+        [0u8; UNPACKED]
+    }
+
+    fn plain<'a>(packed: &'a [u8], room: &'a mut [u8; UNPACKED]) -> &'a [u8] {
+        unpack_into(packed, room)
+    }
+
+    #[tactic(auto, using(crate::proofs::Checks::plains))]
+    fn check(packed: &[u8]) -> Checked {
+        check(packed)
+    }
+
+    fn is_count(n: u8) -> bool {
+        !bad_packed_count(n)
+    }
+
+    fn length_of(n: usize) -> usize {
+        packed_length_of(n)
+    }
+
+    fn write_fresh(packed: &mut [u8], n: u8, stall: u8) {
+        let m = usize::from(n);
+        if bad_packed_count(n) || packed.len() != packed_length_of(m) {
+            return;
+        }
+        let mut room = Packed::room();
+        let image = &mut room[..image::length_of(m)];
+        Head::fresh(n, stall).write(image);
+        pack_image(image, packed, m);
+    }
+}
+
 // The check of a packed image: the first number that applies.
+#[tactic(auto, using(crate::proofs::Checks::plains))]
 pub fn check(packed: &[u8]) -> Checked
     ensures { result ≡ packed_checked packed.now }
 {
-    let mut image = room();
-    let count = plain_length(packed);
-    check_into(packed, &mut image[..count])
+    let mut room = Packed::room();
+    image::check(Packed::plain(packed, &mut room))
 }
 
 // The check of an image that is to be packed: the first number that applies.
@@ -67,10 +117,10 @@ fn packable(image: &[u8]) -> Checked
     ensures { result ≡ packable_checked image.now }
 {
     if image.len() == 0 {
-        return Checked::Refused(1);
+        return Checked::Refused(Refusal::Count as u32);
     }
     if bad_packed_count(image[0]) {
-        return Checked::Refused(1);
+        return Checked::Refused(Refusal::Count as u32);
     }
     image::check(image)
 }
@@ -85,29 +135,30 @@ pub extern "C" fn wilbryn_pack(image: &[u8], packed: &mut [u8]) -> u32
     let Checked::Good(h) = c else {
         return image::number_of(c);
     };
-    let n = wide(h.n);
+    let n = usize::from(h.n);
     if packed.len() != packed_length_of(n) {
-        return 8;
+        return Refusal::Buffer.number();
     }
     pack_image(image, packed, n);
     0
 }
 
 // A packed image unpacked into a buffer.
-#[tactic(auto, unfolding(crate::specs::Calls::into))]
+#[tactic(auto, using(crate::proofs::Packing::unpacks))]
 #[unsafe(no_mangle)]
 pub extern "C" fn wilbryn_unpack(packed: &[u8], image: &mut [u8]) -> u32
     ensures { ◌≡◌ {A = Outcome} (record { answer = result; image = image.new }) (unpack_call packed.now image.old) }
 {
-    let c = check(packed);
-    let Checked::Good(h) = c else {
+    let mut room = Packed::room();
+    let plain = unpack_into(packed, &mut room);
+    let c = image::check(plain);
+    let Checked::Good(_) = c else {
         return image::number_of(c);
     };
-    let n = wide(h.n);
-    if image.len() != image::length_of(n) {
-        return 8;
+    if image.len() != plain.len() {
+        return Refusal::Buffer.number();
     }
-    unpack_image(packed, image, n);
+    image.copy_from_slice(plain);
     0
 }
 
@@ -117,21 +168,7 @@ pub extern "C" fn wilbryn_unpack(packed: &[u8], image: &mut [u8]) -> u32
 pub extern "C" fn wilbryn_packed_fresh(packed: &mut [u8], n: u8, stall: u8) -> u32
     ensures { ◌≡◌ {A = Outcome} (record { answer = result; image = packed.new }) (packed_fresh_call packed.old n stall) }
 {
-    if bad_packed_count(n) {
-        return 1;
-    }
-    let m = wide(n);
-    if packed.len() != packed_length_of(m) {
-        return 2;
-    }
-    if image::bytes::bad_stall(n, stall) {
-        return 3;
-    }
-    let mut bytes = room();
-    let count = image::length_of(m);
-    Head::fresh(n, stall).write(&mut bytes[..count]);
-    pack_image(&bytes[..count], packed, m);
-    0
+    form::fresh::<Packed>(packed, n, stall)
 }
 
 // The number of the first check that fails, 0 where none does.
@@ -143,41 +180,30 @@ pub extern "C" fn wilbryn_packed_check(packed: &[u8]) -> u32
 }
 
 // The current yield becomes a new one.
-#[tactic(auto, unfolding(head::specs::Calls::milked))]
+#[tactic(auto, using(crate::proofs::Checks::plains))]
 #[unsafe(no_mangle)]
 pub extern "C" fn wilbryn_packed_milking(packed: &mut [u8], given: u16) -> u32
     ensures { ◌≡◌ {A = Outcome} (record { answer = result; image = packed.new }) (packed_milking_call packed.old given) }
 {
-    let c = check(packed);
-    let Checked::Good(_) = c else {
-        return image::number_of(c);
-    };
-    if Head::YIELD_LIMIT < given {
-        return 4;
-    }
-    packed[2] = (given / 256) as u8;
-    packed[3] = (given % 256) as u8;
-    0
+    form::milking::<Packed>(packed, given)
 }
 
 // The heard stalls of a packed table with their yields.
+#[tactic(auto, using(crate::proofs::ByPlain::hand_overs))]
 #[unsafe(no_mangle)]
 pub extern "C" fn wilbryn_packed_heard(packed: &[u8], records: &mut [u8]) -> u32
     ensures { ◌≡◌ {A = HeardOutcome} (record { answer = result; records = records.new }) (packed_heard_call packed.now records.old) }
 {
-    let mut image = room();
-    let count = plain_length(packed);
-    heard_into(packed, &mut image[..count], records)
+    form::heard::<Packed>(packed, records)
 }
 
 // For each stall, how many stalls the head knows to have heard its latest of that stall.
+#[tactic(auto, using(crate::proofs::ByPlain::hand_overs))]
 #[unsafe(no_mangle)]
 pub extern "C" fn wilbryn_packed_settled(packed: &[u8], counts: &mut [u8]) -> u32
     ensures { ◌≡◌ {A = Settled} (record { answer = result; counts = counts.new }) (packed_settled_call packed.now counts.old) }
 {
-    let mut image = room();
-    let count = plain_length(packed);
-    settled_into(packed, &mut image[..count], counts)
+    form::settled::<Packed>(packed, counts)
 }
 
 // The label of a meeting, or 256 plus the number of its refusal.
@@ -191,9 +217,14 @@ pub extern "C" fn wilbryn_packed_meeting(
         (record { answer = result; first = first.new; second = second.new; verdicts = verdicts.new })
         (packed_meeting_call first.old second.old verdicts.old) }
 {
-    let mut one = room();
-    let mut two = room();
-    let n = plain_length(first);
-    let m = plain_length(second);
-    meet_into(first, &mut one[..n], second, &mut two[..m], verdicts)
+    let mut one_room = Packed::room();
+    let mut two_room = Packed::room();
+    let one = unpack_into(first, &mut one_room);
+    let two = unpack_into(second, &mut two_room);
+    let answer = head::wilbryn_meeting(one, two, verdicts);
+    if Refusal::ABOVE <= answer {
+        return answer;
+    }
+    pack_both(one, first, two, second);
+    answer
 }

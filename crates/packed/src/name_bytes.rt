@@ -5,7 +5,6 @@ ghost use Rattle.image.specs.Encode.{name_bytes};
 ghost use Rattle.merge.specs.Body.{pair_bytes};
 ghost use Rattle.packed.specs.Form.{name_byte, name_of};
 
-use image::bytes::wide;
 use merge::pairs::Pair;
 
 // The byte of a name, of which only the lower eight bits count where two bytes are no name of an accepted image.
@@ -15,23 +14,23 @@ pub(crate) fn one_byte(column: usize, partner: u8, label: u8) -> u8
     ensures { result ≡ name_byte (suc column) (name_from partner label) % 256 }
 {
     if partner == 0 {
+        // The lower eight bits, which no From takes.
         return ((column * 32) % 256) as u8;
     }
-    (((wide(partner) - 1) * 32 + wide(label)) % 256) as u8
+    (partner - 1).wrapping_mul(32).wrapping_add(label)
 }
 
 // The two bytes of a name.
 #[tactic(auto, unfolding(crate::specs::Form::name_byte, crate::specs::Form::name_of))]
 pub(crate) fn two_bytes(column: usize, byte: u8) -> Pair
+    requires { column < largest }
     ensures { pair_bytes result ≡ name_bytes (name_of (suc column) byte) }
 {
-    let above = byte >> 5;
-    let label = byte & 31;
-    if (wide(above) == column) & (label == 0) {
+    if usize::from(byte) == 32 * column {
         return Pair { high: 0, low: 0 };
     }
     Pair {
-        high: above + 1,
-        low: label,
+        high: (byte >> 5) + 1,
+        low: byte & 31,
     }
 }

@@ -1,4 +1,5 @@
-// An image packed, row by row.
+// An image packed, row by row. These functions and those of `unpack` go in opposite directions, over names of two bytes and of one: a common
+// one would need a trait with a method for each line, which is no plainer.
 ghost use Rattle.std.specs.Prelude.{◌≡◌, ◌+◌, ◌-◌, ◌*◌, ◌%◌, ◌≤◌, [], ◌∷◌, ◌++◌, length, take, drop, get_or};
 ghost use Rattle.image.specs.Layout.{largest, name_from};
 ghost use Rattle.image.specs.Frame.{Sized};
@@ -19,11 +20,9 @@ fn pack_row(image: &[u8], from: usize, packed: &mut [u8], to: usize, n: usize)
         ++ drop (to + n) packed.old }
 {
     let mut place = from;
-    let mut c = 0usize;
-    while c < n {
+    for c in 0..n {
         packed[to + c] = one_byte(c, image[place], image[place + 1]);
         place += 2;
-        c += 1;
     }
 }
 
@@ -35,12 +34,10 @@ fn pack_rows(image: &[u8], packed: &mut [u8], n: usize)
 {
     let mut from = 4usize;
     let mut to = 4usize;
-    let mut r = 0usize;
-    while r < n {
+    for _ in 0..n {
         pack_row(image, from, packed, to, n);
         from += n + n;
         to += n;
-        r += 1;
     }
 }
 
@@ -54,4 +51,16 @@ pub(crate) fn pack_image(image: &[u8], packed: &mut [u8], n: usize)
     let yields = yields_place(image.len(), n);
     let rest = image.len() - yields;
     copy(packed, packed.len() - rest, image, yields, rest);
+}
+
+// Both images of a parlour, packed.
+pub(crate) fn pack_both(one: &[u8], first: &mut [u8], two: &[u8], second: &mut [u8])
+    requires sized { Sized one.now (get_or one.now 0 0) × Sized two.now (get_or one.now 0 0) }
+    requires first_len { (length first.old ≡ packed_image_length (get_or one.now 0 0)) × (length second.old ≡ packed_image_length (get_or one.now 0 0)) }
+    ensures { (first.new ≡ packed_of (get_or one.now 0 0) one.now)
+        × (second.new ≡ packed_of (get_or one.now 0 0) two.now) }
+{
+    let n = usize::from(one[0]);
+    pack_image(one, first, n);
+    pack_image(two, second, n);
 }

@@ -1,34 +1,32 @@
 // A packed image unpacked, row by row; and what is handed to the plain calls in its place.
 ghost use Rattle.std.specs.Prelude.{◌≡◌, ◌+◌, ◌-◌, ◌*◌, ◌≤◌, ◌++◌, length, take, drop, get_or};
-ghost use Rattle.image.specs.Layout.{yields_place};
+ghost use Rattle.image.specs.Layout.{largest, yields_place};
 ghost use Rattle.image.specs.Frame.{Sized};
 ghost use Rattle.image.specs.Stalls.{each};
 ghost use Rattle.image.specs.Encode.{name_bytes};
-ghost use Rattle.packed.specs.Form.{longest_unpacked, packed_image_length, name_of, unpacked_row, unpacked_of};
+ghost use Rattle.packed.specs.Form.{packed_image_length, name_of, unpacked_row, unpacked_of};
 ghost use Rattle.packed.specs.Bytes.{plain_of};
 
 use crate::copies::copy;
 use crate::name_bytes::two_bytes;
-use crate::{bad_packed_count, packed_length_of};
-use image::bytes::{wide, yields_place};
+use crate::{UNPACKED, bad_packed_count, packed_length_of};
+use image::bytes::yields_place;
 use image::length_of;
 
 // The names of a row, which starts at a place, into the row that starts at another.
 fn unpack_row(packed: &[u8], from: usize, image: &mut [u8], to: usize, n: usize)
-    requires { (from + n ≤ length packed.now) × (to + n * 2 ≤ length image.old) }
+    requires { (n ≤ largest) × (from + n ≤ length packed.now) × (to + n * 2 ≤ length image.old) }
     ensures { image.new
         ≡ take to image.old
         ++ each n (λ c. name_bytes (name_of c (get_or packed.now (from + (c - 1)) 0)))
         ++ drop (to + n * 2) image.old }
 {
     let mut place = to;
-    let mut c = 0usize;
-    while c < n {
+    for c in 0..n {
         let name = two_bytes(c, packed[from + c]);
         image[place] = name.high;
         image[place + 1] = name.low;
         place += 2;
-        c += 1;
     }
 }
 
@@ -40,17 +38,15 @@ fn unpack_rows(packed: &[u8], image: &mut [u8], n: usize)
 {
     let mut from = 4usize;
     let mut to = 4usize;
-    let mut r = 0usize;
-    while r < n {
+    for _ in 0..n {
         unpack_row(packed, from, image, to, n);
         from += n;
         to += n + n;
-        r += 1;
     }
 }
 
 // A packed image of n stalls, unpacked.
-pub(crate) fn unpack_image(packed: &[u8], image: &mut [u8], n: usize)
+fn unpack_image(packed: &[u8], image: &mut [u8], n: usize)
     requires { Sized image.old n × (length packed.now ≡ packed_image_length n) }
     ensures { image.new ≡ unpacked_of n packed.now }
 {
@@ -61,37 +57,24 @@ pub(crate) fn unpack_image(packed: &[u8], image: &mut [u8], n: usize)
     copy(image, yields, packed, packed.len() - rest, rest);
 }
 
-// How many bytes are handed to the plain calls in the place of a packed image.
+// What is handed to the plain calls in the place of a packed image, at the front of a room.
 #[tactic(auto, using(crate::proofs::Handed::handings))]
-pub(crate) fn plain_length(packed: &[u8]) -> usize
-    ensures { (result ≡ length (plain_of packed.now)) × (result ≤ longest_unpacked) }
+pub(crate) fn unpack_into<'a>(packed: &[u8], room: &'a mut [u8; UNPACKED]) -> &'a mut [u8]
+    ensures { result.now ≡ plain_of packed.now }
 {
     if packed.len() == 0 {
-        return 0;
+        return &mut room[..0];
     }
     let n = packed[0];
     if bad_packed_count(n) {
-        return 0;
+        return &mut room[..0];
     }
-    if packed.len() != packed_length_of(wide(n)) {
-        return 1;
+    let m = usize::from(n);
+    if packed.len() != packed_length_of(m) {
+        room[0] = n;
+        return &mut room[..1];
     }
-    length_of(wide(n))
-}
-
-// The bytes that are handed to the plain calls in the place of a packed image.
-#[tactic(auto, using(crate::proofs::Handed::handings))]
-pub(crate) fn unpack_into(packed: &[u8], image: &mut [u8])
-    requires { length image.old ≡ length (plain_of packed.now) }
-    ensures { image.new ≡ plain_of packed.now }
-{
-    if image.len() == 0 {
-        return;
-    }
-    let n = packed[0];
-    if image.len() == 1 {
-        image[0] = n;
-        return;
-    }
-    unpack_image(packed, image, wide(n));
+    let image = &mut room[..length_of(m)];
+    unpack_image(packed, image, m);
+    image
 }

@@ -1,6 +1,6 @@
 -- A panel, by what the check answers and by the buffer; and from what the call for the heard list leaves.
-use Prim.Native.Nat.{ℕ, ◌+◌, ◌-◌, ◌*◌, ◌≤◌}
-use mathlib.Core.Path.{◌≡◌, sym, ap, ap₂, ◌∙◌}
+use Prim.Native.Nat.{ℕ, ◌-◌, ◌*◌, ◌≤◌}
+use mathlib.Core.Path.{◌≡◌, refl, sym, ap, ap₂, ◌∙◌}
 use mathlib.Core.List.{List, ◌++◌, append_assoc, flat_map}
 use native.Mathlib.Omega.{arith}
 use borrow.Author.Tests.{eq-eqb, ne_eqb}
@@ -17,16 +17,14 @@ use Rattle.head.specs.Heard.{bytes_of, HeardOutcome, heard_records, heard_count,
 use Rattle.head.proofs.HeardCalls.{heard_accepted}
 use Rattle.head.proofs.HeardLists.{heard_few, length_heard_bytes}
 use Rattle.packed.specs.Form.{unpacked}
+use Rattle.packed.specs.Check.{packed_checked}
+use Rattle.packed.specs.Bytes.{plain_of}
 use Rattle.packed.proofs.Theory as packed
 use Rattle.panel.specs.Panel.{lines, panel_text, panel_length, PanelOutcome, shown, panel_from, panel_call, packed_panel_call}
 use Rattle.panel.specs.Writing.{records_in}
 use Rattle.panel.proofs.Listed.{records_in_lem}
 
 module _ (s buffer : List ℕ) {c : Checked} where
-  pub panel_bad : {k code : ℕ} → c ≡ Refused k → code ≡ k → ◌≡◌ {A = PanelOutcome} (record { answer = 256 + code; text = buffer }) (panel_from s buffer c)
-  unfolding panel_from
-  panel_bad e i = rw (e, i)
-
   pub panel_short : {h : Header} → c ≡ Good h → (length buffer ≡ panel_length → ⊥) → ◌≡◌ {A = PanelOutcome} (record { answer = 264; text = buffer }) (panel_from s buffer c)
   unfolding panel_from
   panel_short e f = rw (e, ne_eqb (length buffer) panel_length f)
@@ -95,3 +93,14 @@ module _ (s : List ℕ) {h : Header} (e : checked s ≡ Good h) {used : ℕ} (us
 -- the unpacked form is checked alike
 pub panel_same : (s buffer : List ℕ) → packed_panel_call s buffer ≡ panel_call (unpacked s) buffer
 panel_same s buffer = ap (panel_from (unpacked s) buffer) (sym ((packed.theory).unpacked_checked s))
+
+-- and so is what is handed over in its place
+pub panel_handed : (s buffer : List ℕ) → panel_call (plain_of s) buffer ≡ packed_panel_call s buffer
+unfolding panel_from
+panel_handed s buffer = ap (panel_from (plain_of s) buffer) ((packed.theory).plain_checked s) ∙ go (packed_checked s) refl
+  where
+    go : (x : Checked) → packed_checked s ≡ x → panel_from (plain_of s) buffer x ≡ panel_from (unpacked s) buffer x
+    go (Good h) e = ap (λ l. panel_from l buffer (Good h)) ((packed.theory).plain_passes s h.n h.stall e)
+    go (Refused number) e = refl
+
+pub ruleset handed = (panel_handed)

@@ -1,6 +1,6 @@
 -- Room for a text, and for the rest of it behind what was put; litres and lines as texts of parts.
 use Prim.Native.Nat.{ℕ, ◌/◌, ◌%◌}
-use mathlib.Core.Path.{◌≡◌, ap, subst, ◌∙◌}
+use mathlib.Core.Path.{◌≡◌, sym, ap, ap₂, subst, ◌∙◌}
 use mathlib.Core.Bool.{true, false}
 use mathlib.Core.List.{List, [], ◌∷◌, ◌++◌, append_assoc}
 use native.Mathlib.Omega.{arith}
@@ -32,8 +32,10 @@ unfolding litres
 litres_milked given e = rw e
 
 -- a line, first part first
-pub line_is : (rank : ℕ) (r : Record) → line rank r ≡ decimal rank ++ (blank ∷ (decimal r.stall ++ (blank ∷ (litres r.given ++ (newline ∷ [])))))
+pub line_is : (rank : ℕ) (r : Record) {stall given : ℕ} → stall ≡ r.stall → given ≡ r.given
+    → line rank r ≡ decimal rank ++ (blank ∷ (decimal stall ++ (blank ∷ (litres given ++ (newline ∷ [])))))
 unfolding line
-line_is rank r =
-    append_assoc (decimal rank ++ blank ∷ decimal r.stall) (blank ∷ litres r.given) (newline ∷ [])
-    ∙ append_assoc (decimal rank) (blank ∷ decimal r.stall) (blank ∷ (litres r.given ++ (newline ∷ [])))
+line_is rank r {stall} {given} d e =
+    ap₂ (λ x y. line rank (record { stall = x; given = y })) (sym d) (sym e)
+    ∙ append_assoc (decimal rank ++ blank ∷ decimal stall) (blank ∷ litres given) (newline ∷ [])
+    ∙ append_assoc (decimal rank) (blank ∷ decimal stall) (blank ∷ (litres given ++ (newline ∷ [])))

@@ -1,11 +1,13 @@
-// Lines of text: each function puts its text at a place of a buffer and answers the place behind it.
+// Lines of text: each function puts its text at a place of a buffer and answers the place behind it. Text and place stay two parameters: a
+// struct that holds a `&mut` needs a ghost_name clause on each method. A digit is cast by `as`, since `try_from` would add a branch, and so
+// is the length, as there is no From of a usize to u32.
 ghost use Rattle.std.specs.Prelude.{◌≡◌, [], ◌∷◌, ◌+◌, ◌*◌, ◌≤◌, ◌<◌, length};
 ghost use Rattle.image.specs.Layout.{largest};
 ghost use Rattle.panel.specs.Decimal.{digit, decimal};
 ghost use Rattle.panel.specs.Panel.{litres, line, lines, panel_length, PanelOutcome, shown};
 ghost use Rattle.panel.specs.Writing.{Room, Put, record_at, records_in};
 
-use image::bytes::{clear_from, wide};
+use image::bytes::clear_from;
 use image::yields::is_not_milked;
 use rank::Record;
 
@@ -78,11 +80,13 @@ fn put_line(text: &mut [u8], at: usize, rank: usize, r: Record) -> usize
     requires { Room text.old at (line rank r) }
     ensures { Put text.old at (line rank r) text.new result }
 {
+    let stall = usize::from(r.stall);
+    let given = usize::from(r.given);
     let mut next = put_number(text, at, rank);
     next = put(text, next, b' ');
-    next = put_number(text, next, r.stall as usize);
+    next = put_number(text, next, stall);
     next = put(text, next, b' ');
-    next = put_litres(text, next, r.given as usize);
+    next = put_litres(text, next, given);
     put(text, next, b'\n')
 }
 
@@ -93,7 +97,7 @@ fn record_at(bytes: &[u8], i: usize) -> Record
 {
     Record {
         stall: bytes[3 * i],
-        given: (wide(bytes[3 * i + 1]) * 256 + wide(bytes[3 * i + 2])) as u16,
+        given: u16::from_be_bytes([bytes[3 * i + 1], bytes[3 * i + 2]]),
     }
 }
 
@@ -103,11 +107,8 @@ fn put_lines(bytes: &[u8], count: usize, text: &mut [u8]) -> usize
     ensures { Put text.old 0 (lines (records_in bytes.now count)) text.new result × (result ≤ panel_length) }
 {
     let mut at = 0usize;
-    let mut i = 0usize;
-    while i < count {
-        let r = record_at(bytes, i);
-        at = put_line(text, at, i + 1, r);
-        i += 1;
+    for i in 0..count {
+        at = put_line(text, at, i + 1, record_at(bytes, i));
     }
     at
 }

@@ -13,6 +13,3 @@ abbrev pub invariant-loop-c : goal.invariant-loop-c
 invariant-loop-c l =
     (l.c ≤ l.n) × (l.place ≡ l.fn.from + l.c * 2) × (l.packed ≡ blocks l.initial.packed l.to 1 (column l.image l.fn.from) l.c)
     × (length l.packed ≡ length l.initial.packed)
-
-abbrev pub decreases-loop-c : goal.decreases-loop-c
-decreases-loop-c l = l.n - l.c

@@ -1,19 +1,16 @@
--- The bytes that are handed to the plain calls.
-use mathlib.Core.Path.{sym, ap, subst, ◌∙◌}
-use Rattle.image.specs.Frame.{Sized}
-use Rattle.packed.specs.Form.{packed_image_length, unpacked_of}
-use Rattle.packed.proofs.Handed.{whole_handed}
+-- What is handed to the plain calls in the place of a packed image.
+use mathlib.Core.Path.{sym, ap, ◌∙◌}
+use native.Mathlib.Omega.{arith}
+use Rattle.packed.specs.Form.{packed_length}
+use Rattle.packed.proofs.Handed.{handed_count, handed_sized}
 use Rattle.packed.proofs.unpack.unpack_into.Goals as goal
+
+pub returns-then-packed-packed_length_of : goal.returns-then-packed-packed_length_of
+returns-then-packed-packed_length_of c =
+    handed_count c.args.packed.now c.if-packed-eq0.false (sym c.bad_packed_count.ensures ∙ c.if-bad_packed_count.false) c.args.room.now (omega (arith, c.told-room))
+    (λ e. c.if-packed-packed_length_of.true (e ∙ ap packed_length (sym c.from-m.ensures) ∙ sym c.packed_length_of.ensures))
 
 pub unpack_image-requires : goal.unpack_image-requires
 unpack_image-requires c =
-    let a = c.args in
-    let w = whole_handed a.packed.now a.image.now c.requires c.if-image-eq0.false c.if-image-eq1.false in
-    let n = sym c.wide.ensures.0 in
-    (subst (Sized a.image.now) n w.image, w.packed ∙ ap packed_image_length n)
-
-pub returns : goal.returns
-returns c =
-    let a = c.args in
-    let w = whole_handed a.packed.now a.image.now c.requires c.if-image-eq0.false c.if-image-eq1.false in
-    c.unpack_image.ensures ∙ ap (λ n. unpacked_of n a.packed.now) c.wide.ensures.0 ∙ sym w.is
+    handed_sized c.args.packed.now c.if-packed-eq0.false (sym c.bad_packed_count.ensures ∙ c.if-bad_packed_count.false)
+    (c.if-packed-packed_length_of.false ∙ c.packed_length_of.ensures ∙ ap packed_length c.from-m.ensures) c.from-m.ensures c.length_of.ensures c.args.room.now c.told-room

@@ -13,6 +13,3 @@ abbrev pub invariant-loop-c : goal.invariant-loop-c
 invariant-loop-c l =
     (l.c ≤ l.n) × (l.place ≡ l.fn.to + l.c * 2) × (l.image ≡ blocks l.initial.image l.fn.to 2 (column l.packed l.from) l.c)
     × (length l.image ≡ length l.initial.image)
-
-abbrev pub decreases-loop-c : goal.decreases-loop-c
-decreases-loop-c l = l.n - l.c

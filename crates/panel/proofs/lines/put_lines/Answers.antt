@@ -12,26 +12,14 @@ use Rattle.panel.proofs.lines.put_lines.Goals as goal
 pub loop-i-init : goal.loop-i-init
 loop-i-init c = (omega arith, put_none _ _, omega arith, refl)
 
-pub record_at-r-requires : goal.record_at-r-requires
-record_at-r-requires c = omega arith
-
-pub overflow_add-i : goal.overflow_add-i
-overflow_add-i c = omega arith
+pub record_at-requires : goal.record_at-requires
+record_at-requires c = omega arith
 
 pub put_line-at-requires : goal.put_line-at-requires
-put_line-at-requires c = line_room _ _ (c.loop-i.invariant.3 ∙ c.requires.2) c.loop-i.invariant.2 c.loop-i-test.true c.requires.0 (line_short (c.loop-i.i + 1) c.record_at-r.result (omega (arith, c.requires.0)) (omega (arith, c.record_at-r.type_inv)) (omega (arith, c.record_at-r.type_inv)))
-
-pub overflow_add-i-in-loop-i : goal.overflow_add-i-in-loop-i
-overflow_add-i-in-loop-i c = omega arith
-
-pub loop-i-smaller : goal.loop-i-smaller
-loop-i-smaller c = omega arith
+put_line-at-requires c = line_room _ _ (c.loop-i.invariant.3 ∙ c.requires.2) c.loop-i.invariant.2 c.loop-i-test.true c.requires.0 (line_short (c.loop-i.i + 1) c.record_at.result (omega (arith, c.requires.0)) (omega (arith, c.record_at.type_inv)) (omega (arith, c.record_at.type_inv)))
 
 pub loop-i-preserved : goal.loop-i-preserved
-loop-i-preserved c = (omega arith, put_next c.args.bytes.now c.loop-i.i c.record_at-r.ensures c.loop-i.invariant.1 c.put_line-at.ensures, omega (arith, c.put_line-at.ensures.behind, c.loop-i.invariant.2, (line_short (c.loop-i.i + 1) c.record_at-r.result (omega (arith, c.requires.0)) (omega (arith, c.record_at-r.type_inv)) (omega (arith, c.record_at-r.type_inv)))), c.put_line-at.auto.text ∙ c.loop-i.invariant.3)
-
-pub shape_of-text : goal.shape_of-text
-shape_of-text c = c.loop-i.invariant.3
+loop-i-preserved c = (omega arith, put_next c.args.bytes.now c.loop-i.i c.record_at.ensures c.loop-i.invariant.1 c.put_line-at.ensures, omega (arith, c.put_line-at.ensures.behind, c.loop-i.invariant.2, (line_short (c.loop-i.i + 1) c.record_at.result (omega (arith, c.requires.0)) (omega (arith, c.record_at.type_inv)) (omega (arith, c.record_at.type_inv)))), c.put_line-at.auto.text ∙ c.loop-i.invariant.3)
 
 pub returns : goal.returns
 returns c = let done : c.loop-i.i ≡ c.args.count = omega arith in (put_is (ap (λ k. lines (records_in c.args.bytes.now k)) (sym done)) c.loop-i.invariant.1, panel_room c.loop-i.invariant.2 done c.requires.0)

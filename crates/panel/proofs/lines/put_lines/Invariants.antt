@@ -1,5 +1,5 @@
 -- The lines of the first records of a heard list.
-use Prim.Native.Nat.{◌-◌, ◌*◌, ◌≤◌}
+use Prim.Native.Nat.{◌*◌, ◌≤◌}
 use mathlib.Core.Path.{◌≡◌}
 use lib.ListN.{length}
 use Rattle.panel.specs.Panel.{lines}
@@ -8,6 +8,3 @@ use Rattle.panel.proofs.lines.put_lines.Given as goal
 
 abbrev pub invariant-loop-i : goal.invariant-loop-i
 invariant-loop-i l = (l.i ≤ l.count) × Put l.initial.text 0 (lines (records_in l.bytes l.i)) l.text l.at × (l.at ≤ 15 * l.i) × (length l.text ≡ length l.initial.text)
-
-abbrev pub decreases-loop-i : goal.decreases-loop-i
-decreases-loop-i l = l.count - l.i
