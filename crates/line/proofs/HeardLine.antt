@@ -1,5 +1,5 @@
 -- An image and a heard list in a line.
-use Prim.Native.Nat.{ℕ, ◌+◌, ◌-◌, ◌*◌, ◌≤◌, ◌<◌}
+use Prim.Native.Nat.{ℕ, ◌-◌, ◌*◌, ◌≤◌, ◌<◌}
 use mathlib.Core.Path.{◌≡◌, sym, ap, ap₂, ◌∙◌}
 use mathlib.Core.Bool.{true, false}
 use mathlib.Core.List.{List, [], ◌∷◌, ◌++◌}
@@ -30,7 +30,7 @@ module _ (state : List ℕ) (stall : ℕ) where
   unfolding hearing
   hearing_bad e = rw e
 
-module _ {state out : List ℕ} {stall at size m : ℕ} (w : AtStall state out stall at size m) where
+module _ {state out : List ℕ} {stall start end m : ℕ} (w : AtStall state out stall start end m) where
   few : 3 * m ≤ 3 * largest
   few = omega (arith, stall_heads w)
 
@@ -39,10 +39,10 @@ module _ {state out : List ℕ} {stall at size m : ℕ} (w : AtStall state out s
 
   -- the call, with a buffer at the front of zeros for the largest parlour
   module _ {r : ℕ} {x : List ℕ}
-      (call : ◌≡◌ {A = HeardOutcome} (record { answer = r; records = x }) (heard_call (take (at + size - at) (drop at state)) (take (3 * m) (replicate (3 * largest) 0))))
+      (call : ◌≡◌ {A = HeardOutcome} (record { answer = r; records = x }) (heard_call (take (end - start) (drop start state)) (take (3 * m) (replicate (3 * largest) 0))))
       (x_long : length x ≡ length (take {A = ℕ} (3 * m) (replicate (3 * largest) 0))) where
     pub hearing_code : (r ≤ 264) × (r < 256 → r ≤ m)
-    hearing_code = heard_code (take (at + size - at) (drop at state)) (take (3 * m) (replicate (3 * largest) 0)) m (sym buffer_long) (stall_heads w) call
+    hearing_code = heard_code (take (end - start) (drop start state)) (take (3 * m) (replicate (3 * largest) 0)) m (sym buffer_long) (stall_heads w) call
 
     pub records_long : length (x ++ drop (3 * m) (replicate (3 * largest) 0)) ≡ 3 * largest
     records_long = array_long (3 * m) (3 * largest) few x x_long
@@ -50,7 +50,7 @@ module _ {state out : List ℕ} {stall at size m : ℕ} (w : AtStall state out s
     hearing_is : hearing state stall ≡ heard_by state (record { answer = r; records = x })
     unfolding hearing
     hearing_is =
-        rw w.good
+        rw w.slot.good
         (ap (heard_by state)
         (sym (call ∙ ap₂ heard_call (stall_image w) (take_zeros (3 * m) (3 * largest) few ∙ ap (λ k. replicate (3 * k) 0) w.m_is))))
 

@@ -1,15 +1,16 @@
--- Digits: which bytes they are, a line of them read from the front, and bytes written as digits.
+-- Digits: which bytes they are, lines of them, and bytes written as digits.
 use Prim.Native.Nat.{ℕ, zero, suc, ◌+◌, ◌-◌, ◌*◌, ◌≤◌, ◌<◌}
 use mathlib.Core.Path.{◌≡◌, refl, sym, ap, ap₂, ◌∙◌}
 use mathlib.Core.Bool.{Bool, true, false, ◌&&◌, and-false, true≢false}
 use mathlib.Core.List.{List, [], ◌∷◌, ◌++◌, flat_map, append_assoc, append-nil}
+use Rattle.std.specs.List.{list_all}
 use native.Mathlib.Omega.{arith}
 use native.Mathlib.Numerals.{add-one}
 use native.Mathlib.Decide.{dec_le}
 use borrow.Author.Tests.{le-leb, lt-leb}
 use lib.Dec.{leb}
-use lib.ListN.{length, get_or, take, drop, length-append, take-append-drop, drop_of_length-le}
-use lib.Seq.{drop-cons, take-suc, take-length, length-take-le}
+use lib.ListN.{length, get_or, take, drop, length-append, take-append-drop}
+use lib.Seq.{take-suc, take-length, length-take-le}
 use Rattle.image.proofs.Has.{flat_map_append, length_flat_map}
 use Rattle.image.proofs.Overwrite.{behind}
 use Rattle.line.specs.Digits.{is_digit, digit_value, all_digits, pair_of, digits_of}
@@ -57,19 +58,11 @@ module _ (c : ℕ) (digit : is_digit c ≡ true) where
   unfolding digit_value
   value_high l = rw (lt-leb c 57 l) (refl, omega (arith, (high_digit l).1))
 
--- a line of digits, read from the front
-pub digits_stop : (l : List ℕ) (i : ℕ) → i < length l → is_digit (get_or l i 0) ≡ false → all_digits (drop i l) ≡ false
+-- a line of digits, as std says that a test holds of all
+pub list_all_digits : (l : List ℕ) → list_all is_digit l ≡ all_digits l
 unfolding all_digits
-digits_stop l i k e = ap all_digits (drop-cons l i 0 k) ∙ ap (λ t. t && all_digits (drop (suc i) l)) e
-
-pub digits_step : (l : List ℕ) (i : ℕ) → i < length l → is_digit (get_or l i 0) ≡ true → all_digits (drop i l) ≡ all_digits (drop (i + 1) l)
-unfolding all_digits
-digits_step l i k e =
-    ap all_digits (drop-cons l i 0 k) ∙ ap (λ t. t && all_digits (drop (suc i) l)) e ∙ ap (λ j. all_digits (drop j l)) (sym (add-one i))
-
-pub digits_end : (l : List ℕ) (i : ℕ) → length l ≤ i → all_digits (drop i l) ≡ true
-unfolding all_digits
-digits_end l i k = ap all_digits (drop_of_length-le l k)
+list_all_digits [] = refl
+list_all_digits (c ∷ l) = ap (λ t. is_digit c && t) (list_all_digits l)
 
 -- each byte of a line of digits is one
 pub each_digit : (l : List ℕ) (i : ℕ) → all_digits l ≡ true → i < length l → is_digit (get_or l i 0) ≡ true
@@ -146,5 +139,3 @@ digits_to_end d l bytes at i a b e =
 pub ruleset values = (low_digit, high_digit, value_low, value_high)
 
 pub ruleset each_one = (each_digit)
-
-pub ruleset digit_steps = (digits_stop, digits_step, digits_end)

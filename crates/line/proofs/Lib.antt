@@ -7,6 +7,7 @@ pub mod Lent
 pub mod Replying
 pub mod AtStall
 pub mod MeetingLine
+pub mod MilkingLine
 pub mod HeardLine
 pub mod SettledLine
 pub mod Lines

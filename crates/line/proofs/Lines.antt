@@ -3,7 +3,7 @@ use Prim.Native.Nat.{ℕ, ◌≤◌, ◌<◌}
 use mathlib.Core.Path.{◌≡◌, sym, ap, ap₂, ◌∙◌}
 use mathlib.Core.Bool.{Bool, false, ◌&&◌, and-false}
 use mathlib.Core.List.{List}
-use borrow.Author.Tests.{eq-eqb, ne_eqb, le-leb, lt-leb}
+use borrow.Author.Tests.{eq-eqb, le-leb, lt-leb}
 use lib.Dec.{leb, eqb}
 use lib.ListN.{length}
 use Rattle.line.specs.Frame.{frame_of}
@@ -25,9 +25,6 @@ module _ (state line out : List ℕ) where
   unfit : (eqb (length state) state_length && leb longest_answer (length out)) ≡ false → outcome 0 state out ≡ answer_call state line out
   unfolding answer_call
   unfit e = rw e
-
-  pub wrong_state : (length state ≡ state_length → ⊥) → outcome 0 state out ≡ answer_call state line out
-  wrong_state f = unfit (ap (λ t. t && leb longest_answer (length out)) (ne_eqb (length state) state_length f))
 
   pub short_buffer : length out < longest_answer → outcome 0 state out ≡ answer_call state line out
   short_buffer l = unfit (ap (λ t. eqb (length state) state_length && t) (lt-leb longest_answer (length out) l) ∙ and-false (eqb (length state) state_length))

@@ -14,7 +14,7 @@ use Rattle.line.specs.Parlour.{heads_of, slot_place, image_of, with_image}
 use Rattle.line.specs.Answer.{refusal, met_by, meeting_of, meeting}
 use Rattle.line.specs.Asked.{Opened, StallOf, MetAt}
 use Rattle.line.proofs.Numbers.{meeting_code}
-use Rattle.line.proofs.Lent.{lent_long, array_long, front_long, the_front}
+use Rattle.line.proofs.Lent.{lent_long, the_front}
 use Rattle.line.proofs.Replying.{image_short, image_fits}
 
 -- a meeting, refused for its stalls and not
@@ -67,12 +67,6 @@ module _ {state out : List ℕ} {n p q m count a b : ℕ} (w : Stalls state out 
   pub fits_first : a + count ≤ length state
   fits_first = image_fits state out p a count w.opened first_good w.a_is long
 
-  pub fits_second : b + count ≤ length state
-  fits_second = image_fits state out q b count w.opened second_good w.b_is long
-
-  pub zeros_long : m ≡ length (take {A = ℕ} m (replicate largest 0))
-  zeros_long = lent_long m largest m_to
-
   pub copy_long : count ≡ length (take {A = ℕ} count (replicate longest 0))
   copy_long = lent_long count longest short
 
@@ -105,12 +99,6 @@ module _ {state out : List ℕ} {n p q m count a b : ℕ} (w : Stalls state out 
         ∙ put_at (with_image state p w'.first) w'.second q b w.b_is w'.second_long
 
     -- the verdicts stand at the front of their array
-    pub verdicts_long : length (v ++ drop m (replicate largest 0)) ≡ largest
-    verdicts_long = array_long m largest m_to v v_long
-
-    pub told_long : m ≡ length (take m (v ++ drop m (replicate largest 0)))
-    told_long = front_long m largest m_to v v_long
-
     the_verdicts : take m (v ++ drop m (replicate largest 0)) ≡ v
     the_verdicts = the_front m largest m_to v v_long
 

@@ -1,7 +1,7 @@
 -- Replies in the buffers of a call.
 use Prim.Native.Nat.{ℕ, ◌+◌, ◌-◌, ◌*◌, ◌≤◌}
 use mathlib.Core.Path.{◌≡◌, refl, sym, ap, ap₂, ◌∙◌}
-use mathlib.Core.Bool.{Bool, true, false, not}
+use mathlib.Core.Bool.{true, false, not}
 use mathlib.Core.List.{List, [], ◌∷◌, ◌++◌}
 use native.Mathlib.Omega.{arith}
 use lib.ListN.{length, take, drop, length-append}
@@ -12,9 +12,8 @@ use Rattle.head.specs.Calls.{Outcome, milking_call}
 use Rattle.image.proofs.Stages.{length_range}
 use Rattle.image.proofs.Overwrite.{behind}
 use Rattle.line.specs.Digits.{pair_of, digits_of}
-use Rattle.line.specs.Parlour.{heads_of, slot_place, image_of, with_image, fresh_state}
-use Rattle.line.specs.Answer.{Reply, refusal, opening, milked_by, milking, reply_to, written, AnswerOutcome, outcome, replied}
-use Rattle.line.specs.declared.frame.Frame.{Frame}
+use Rattle.line.specs.Parlour.{heads_of, slot_place, image_of, with_image}
+use Rattle.line.specs.Answer.{Reply, refusal, milked_by, milking, written, outcome, replied}
 use Rattle.line.specs.Asked.{Opened, StallOf}
 use Rattle.line.proofs.Hexadecimal.{digits_one, digits_append, length_digits}
 use Rattle.line.proofs.Lent.{part_length, part_back}
@@ -72,23 +71,9 @@ module _ (state out : List ℕ) (stall at count : ℕ) (opened : Opened state ou
       let k : at + count ≡ slot_place stall + length image = omega arith in
       part_back state at count image ∙ ap₂ (λ p q. take p state ++ image ++ drop q state) stands k
 
--- the reply to a frame
-pub replied_to : (state out : List ℕ) (opened : Bool) {frame f : Frame} {o : AnswerOutcome} → frame ≡ f → o ≡ replied out (reply_to state opened f)
-    → o ≡ replied out (reply_to state opened frame)
-replied_to state out opened e r = r ∙ sym (ap (λ x. replied out (reply_to state opened x)) e)
-
--- an opening, refused and not
+-- the numbers of heads that a parlour may have
 pub count_range : (n : ℕ) → is_count n ≡ true → (2 ≤ n) × (n ≤ largest)
 count_range n e = in_range 2 largest n (ap not e)
-
-module _ (state : List ℕ) (n : ℕ) where
-  pub opening_bad : is_count n ≡ false → opening state n ≡ refusal state 1
-  unfolding opening
-  opening_bad e = rw e
-
-  pub opening_done : (x : List ℕ) → is_count n ≡ true → x ≡ fresh_state n → opening state n ≡ record { bytes = 0 ∷ []; state = x }
-  unfolding opening
-  opening_done x e f = rw (e, f)
 
 -- a milking, refused for its stall and not
 module _ (state : List ℕ) (stall yield : ℕ) where

@@ -1,9 +1,8 @@
 -- The numbers of a head in a line: how many stalls it knows to have heard its latest of each.
-use Prim.Native.Nat.{ℕ, ◌+◌, ◌-◌, ◌≤◌}
+use Prim.Native.Nat.{ℕ, ◌-◌, ◌≤◌}
 use mathlib.Core.Path.{◌≡◌, sym, ap, ap₂, ◌∙◌}
 use mathlib.Core.Bool.{true}
 use mathlib.Core.List.{List, [], ◌∷◌, ◌++◌}
-use native.Mathlib.Omega.{arith}
 use borrow.Author.Tests.{eq-eqb, ne_eqb}
 use lib.ListN.{length, take, drop, replicate}
 use Rattle.image.specs.Layout.{largest}
@@ -13,7 +12,7 @@ use Rattle.head.specs.Settled.{Settled, settled_call}
 use Rattle.line.specs.Parlour.{heads_of}
 use Rattle.line.specs.Answer.{refusal, settled_by, settling}
 use Rattle.line.proofs.Numbers.{settled_code}
-use Rattle.line.proofs.Lent.{array_long, front_long, the_front}
+use Rattle.line.proofs.Lent.{the_front}
 use Rattle.line.proofs.AtStall.{AtStall, stall_image, stall_heads}
 
 pub settling_bad : (state : List ℕ) (stall : ℕ) → bad_stall (heads_of state) stall ≡ true → settling state stall ≡ refusal state 3
@@ -21,19 +20,16 @@ unfolding settling
 settling_bad state stall e = rw e
 
 -- the call, with a buffer at the front of zeros for the largest parlour
-module _ {state out : List ℕ} {stall at size m : ℕ} (w : AtStall state out stall at size m) {r : ℕ} {x : List ℕ}
-    (call : ◌≡◌ {A = Settled} (record { answer = r; counts = x }) (settled_call (take (at + size - at) (drop at state)) (take m (replicate largest 0))))
+module _ {state out : List ℕ} {stall start end m : ℕ} (w : AtStall state out stall start end m) {r : ℕ} {x : List ℕ}
+    (call : ◌≡◌ {A = Settled} (record { answer = r; counts = x }) (settled_call (take (end - start) (drop start state)) (take m (replicate largest 0))))
     (x_long : length x ≡ length (take {A = ℕ} m (replicate largest 0))) where
   pub settling_code : r ≤ 8
-  settling_code = settled_code (take (at + size - at) (drop at state)) (take m (replicate largest 0)) call
-
-  pub counts_long : (m ≡ length (take m (x ++ drop m (replicate largest 0)))) × (m ≤ length (x ++ drop m (replicate largest 0)))
-  counts_long = (front_long m largest (stall_heads w) x x_long, omega (arith, array_long m largest (stall_heads w) x x_long, stall_heads w))
+  settling_code = settled_code (take (end - start) (drop start state)) (take m (replicate largest 0)) call
 
   settling_is : settling state stall ≡ settled_by state (record { answer = r; counts = x })
   unfolding settling
   settling_is =
-      rw w.good
+      rw w.slot.good
       (ap (settled_by state)
       (sym (call ∙ ap₂ settled_call (stall_image w) (take_zeros m largest (stall_heads w) ∙ ap (λ k. replicate k 0) w.m_is))))
 

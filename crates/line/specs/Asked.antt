@@ -1,8 +1,9 @@
 -- What the functions inside `line` ask of their callers, and what a meeting in a state leaves. `answer` asks nothing.
-use Rattle.std.specs.Prelude.{ℕ, ◌+◌, ◌≤◌, ◌≡◌, List, ◌++◌, length, take, drop}
-use Rattle.image.specs.Layout.{largest}
+use Rattle.std.specs.Prelude.{ℕ, ◌+◌, ◌≤◌, ◌≡◌, false, List, ◌++◌, length, take, drop}
+use Rattle.image.specs.Layout.{largest, length_of}
+use Rattle.image.specs.Check.{bad_stall}
 use Rattle.merge.specs.Call.{MeetingOutcome, meeting_call}
-use Rattle.line.specs.Parlour.{state_length, heads_of}
+use Rattle.line.specs.Parlour.{state_length, heads_of, slot_place}
 use Rattle.line.specs.Answer.{longest_answer}
 
 -- buffers of the right lengths
@@ -21,6 +22,12 @@ pub record Opened (state out : List ℕ) : Type 0 where
 pub record StallOf (n stall : ℕ) : Type 0 where
   pub from : 1 ≤ stall
   pub to : stall ≤ n
+
+-- the bytes of a state that are the image of the head at a stall, which is there
+pub record IsSlot (state : List ℕ) (stall start end : ℕ) : Type 0 where
+  pub good : bad_stall (heads_of state) stall ≡ false
+  pub start_is : start ≡ slot_place stall
+  pub end_is : end ≡ start + length_of (heads_of state)
 
 -- the heads whose images, so many bytes each, start at two places of a state met, and both images were put back
 pub record MetAt (state : List ℕ) (a b count : ℕ) (buffer : List ℕ) (answer : ℕ) (after verdicts : List ℕ) : Type 0 where

@@ -10,18 +10,10 @@ fn is_digit(c: u8) -> bool
 }
 
 // Every byte of a line is a digit.
-#[tactic(auto, using(crate::proofs::Hexadecimal::digit_steps))]
 pub(crate) fn are_digits(line: &[u8]) -> bool
     ensures { result ≡ all_digits line.now }
 {
-    let mut i = 0usize;
-    while i < line.len() {
-        if !is_digit(line[i]) {
-            return false;
-        }
-        i += 1;
-    }
-    true
+    line.iter().all(|&c| is_digit(c))
 }
 
 // What a digit stands for.
@@ -73,11 +65,7 @@ pub(crate) fn put_bytes(out: &mut [u8], at: usize, bytes: &[u8])
     ensures { out.new
         ≡ take at out.old ++ digits_of bytes.now ++ drop (at + 2 * length bytes.now) out.old }
 {
-    let mut i = 0usize;
-    let mut place = at;
-    while i < bytes.len() {
-        put_byte(out, place, bytes[i]);
-        place += 2;
-        i += 1;
+    for (i, &byte) in bytes.iter().enumerate() {
+        put_byte(out, at + 2 * i, byte);
     }
 }

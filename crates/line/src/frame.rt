@@ -5,8 +5,9 @@ ghost use Rattle.line.specs.Frame.{kind_of_two, kind_of_three, kind_of_four, fra
 
 use crate::digits::{are_digits, byte_at};
 
-// What a line asks for. A line that is no frame is bad.
-#[derive(Clone, Copy)]
+// What a line asks for. A line that is no frame is `Bad`, and `parse` answers no Option or Result: what may not change names the case, in
+// `frame_of`, `reply_to` and its theorem `refusal_alone`, and in what `sessions` says of each frame (`answer_to`, `opens`, `items_of`).
+#[derive(Clone, Copy, Debug, PartialEq, Eq)]
 pub enum Frame {
     Open(u8),
     Milking(u8, u16),
@@ -22,19 +23,13 @@ pub enum Frame {
 fn of_two(kind: u8, x: u8) -> Frame
     ensures { result ≡ kind_of_two kind x }
 {
-    if kind == 1 {
-        return Frame::Open(x);
+    match kind {
+        1 => Frame::Open(x),
+        4 => Frame::Show(x),
+        5 => Frame::Heard(x),
+        6 => Frame::Settled(x),
+        _ => Frame::Bad,
     }
-    if kind == 4 {
-        return Frame::Show(x);
-    }
-    if kind == 5 {
-        return Frame::Heard(x);
-    }
-    if kind == 6 {
-        return Frame::Settled(x);
-    }
-    Frame::Bad
 }
 
 // The kind of three bytes.
@@ -42,10 +37,10 @@ fn of_two(kind: u8, x: u8) -> Frame
 fn of_three(kind: u8, x: u8, y: u8) -> Frame
     ensures { result ≡ kind_of_three kind x y }
 {
-    if kind == 3 {
-        return Frame::Meeting(x, y);
+    match kind {
+        3 => Frame::Meeting(x, y),
+        _ => Frame::Bad,
     }
-    Frame::Bad
 }
 
 // The kind of four bytes: the yield has its high byte first.
@@ -53,10 +48,10 @@ fn of_three(kind: u8, x: u8, y: u8) -> Frame
 fn of_four(kind: u8, x: u8, high: u8, low: u8) -> Frame
     ensures { result ≡ kind_of_four kind x high low }
 {
-    if kind == 2 {
-        return Frame::Milking(x, (high as u16) * 256 + (low as u16));
+    match kind {
+        2 => Frame::Milking(x, u16::from_be_bytes([high, low])),
+        _ => Frame::Bad,
     }
-    Frame::Bad
 }
 
 // The frame of a line of digits.
@@ -65,22 +60,17 @@ fn parse_digits(line: &[u8]) -> Frame
     requires { all_digits line.now ≡ true }
     ensures { result ≡ frame_of line.now }
 {
-    let n = line.len();
-    if n == 4 {
-        return of_two(byte_at(line, 0), byte_at(line, 2));
-    }
-    if n == 6 {
-        return of_three(byte_at(line, 0), byte_at(line, 2), byte_at(line, 4));
-    }
-    if n == 8 {
-        return of_four(
+    match line.len() {
+        4 => of_two(byte_at(line, 0), byte_at(line, 2)),
+        6 => of_three(byte_at(line, 0), byte_at(line, 2), byte_at(line, 4)),
+        8 => of_four(
             byte_at(line, 0),
             byte_at(line, 2),
             byte_at(line, 4),
             byte_at(line, 6),
-        );
+        ),
+        _ => Frame::Bad,
     }
-    Frame::Bad
 }
 
 // The frame of a line. No frame has more than 8 digits.
@@ -88,11 +78,9 @@ fn parse_digits(line: &[u8]) -> Frame
 pub fn parse(line: &[u8]) -> Frame
     ensures { result ≡ frame_of line.now }
 {
-    if 8 < line.len() {
-        return Frame::Bad;
+    if line.len() <= 8 && are_digits(line) {
+        parse_digits(line)
+    } else {
+        Frame::Bad
     }
-    if are_digits(line) {
-        return parse_digits(line);
-    }
-    Frame::Bad
 }

@@ -2,24 +2,31 @@
 #![tactic(auto)]
 
 ghost use Rattle.std.specs.Prelude.{◌≡◌, true, false, [], ◌∷◌, ◌+◌, ◌*◌, ◌≤◌, length};
-ghost use Rattle.line.specs.Parlour.{heads_of};
-ghost use Rattle.line.specs.Answer.{opening, milking, meeting_of, meeting, showing, hearing, settling, reply_to, written, outcome, replied, answer_call};
-ghost use Rattle.line.specs.Asked.{Ready, Opened, StallOf};
+ghost use Rattle.line.specs.Parlour.{is_open};
+ghost use Rattle.line.specs.Answer.{opening, milking, meeting, showing, hearing, settling, reply_to, written, outcome, replied, answer_call};
+ghost use Rattle.line.specs.Refused.{finished};
+ghost use Rattle.line.specs.Asked.{Ready, Opened};
 
 use crate::digits::{put_byte, put_bytes};
 use crate::frame::Frame;
-use crate::parlour::{meet_at, open_parlour, place_of};
-use image::bytes::{bad_stall, is_count, wide};
+use crate::parlour::{meet_at, open_parlour, slot_of};
+use crate::refusal::{Refusal, accepted, answered};
+use image::bytes::is_count;
 use image::{LONGEST, STALLS, length_of};
 
 mod digits;
 pub mod frame;
 mod parlour;
+mod refusal;
 
 // The bytes of the state between lines, and the digits of the longest answer: `00` and the longest image.
 pub const STATE: usize = 1 + STALLS * LONGEST;
 
 pub const ANSWER: usize = 2 + 2 * LONGEST;
+
+// `state` and `out` are lent side by side: a struct of the two is no plainer, since each function that takes one with a `&mut` in it has to
+// ensure for each that it is the same reference still, and three of them only read the state.
+// What `answer` is lent, and that it cannot fail, may not change: so there is no Vec inside, and a buffer is the front of an array.
 
 // An answer of one byte: a refusal's number, or 0.
 #[tactic(auto, using(crate::proofs::Replying::written_one))]
@@ -56,132 +63,96 @@ fn reply_with(out: &mut [u8], byte: u8, more: &[u8]) -> usize
 
 // Opens a parlour of n heads.
 #[tactic(auto, unfolding(crate::specs::Answer::opening))]
-fn open(state: &mut [u8], n: u8, out: &mut [u8]) -> usize
+fn open(state: &mut [u8], n: u8, out: &mut [u8]) -> Result<usize, Refusal>
     requires { Ready state.old out.old }
-    ensures { outcome result state.new out.new ≡ replied out.old (opening state.old n) }
+    ensures { finished result state.new out.new ≡ replied out.old (opening state.old n) }
 {
-    if is_count(n) {
-        open_parlour(state, n);
-        return reply_byte(out, 0);
+    if !is_count(n) {
+        return Err(Refusal::Image(image::Refusal::Count));
     }
-    reply_byte(out, 1)
+    open_parlour(state, n);
+    Ok(reply_byte(out, 0)) // It is open now.
 }
 
 // A milking of the head at a stall.
-fn milk(state: &mut [u8], stall: u8, given: u16, out: &mut [u8]) -> usize
+fn milk(state: &mut [u8], stall: u8, given: u16, out: &mut [u8]) -> Result<usize, Refusal>
     requires { Opened state.old out.old }
-    ensures { outcome result state.new out.new ≡ replied out.old (milking state.old stall given) }
+    ensures { finished result state.new out.new ≡ replied out.old (milking state.old stall given) }
 {
-    let n = state[0];
-    if bad_stall(n, stall) {
-        return reply_byte(out, 3);
-    }
-    let at = place_of(stall);
-    let count = length_of(wide(n));
-    let number = head::wilbryn_milking(&mut state[at..at + count], given);
-    reply_byte(out, number as u8)
+    let slot = slot_of(state, stall)?;
+    let number = head::wilbryn_milking(&mut state[slot.start..slot.end], given);
+    accepted(number)?;
+    Ok(reply_byte(out, 0))
 }
 
 // A meeting of the heads at two stalls.
-fn meet_stalls(state: &mut [u8], n: u8, p: u8, q: u8, out: &mut [u8]) -> usize
-    requires { Opened state.old out.old × (n ≡ heads_of state.old) × StallOf n p × StallOf n q }
-    ensures { outcome result state.new out.new ≡ replied out.old (meeting_of state.old p q) }
-{
-    let m = wide(n);
-    let count = length_of(m);
-    let a = place_of(p);
-    let b = place_of(q);
-    let mut second = [0u8; LONGEST];
-    let mut verdicts = [0u8; STALLS];
-    let label = meet_at(state, a, b, &mut second[..count], &mut verdicts[..m]);
-    if 256 <= label {
-        return reply_byte(out, (label - 256) as u8);
-    }
-    reply_with(out, label as u8, &verdicts[..m])
-}
-
-// A meeting, or its refusal.
-#[tactic(auto, unfolding(crate::specs::Answer::meeting))]
-fn meet(state: &mut [u8], p: u8, q: u8, out: &mut [u8]) -> usize
+fn meet(state: &mut [u8], p: u8, q: u8, out: &mut [u8]) -> Result<usize, Refusal>
     requires { Opened state.old out.old }
-    ensures { outcome result state.new out.new ≡ replied out.old (meeting state.old p q) }
+    ensures { finished result state.new out.new ≡ replied out.old (meeting state.old p q) }
 {
-    let n = state[0];
-    if bad_stall(n, p) {
-        return reply_byte(out, 3);
-    }
-    if bad_stall(n, q) {
-        return reply_byte(out, 3);
-    }
+    let first = slot_of(state, p)?;
+    let second = slot_of(state, q)?;
     if p == q {
-        return reply_byte(out, 7);
+        return Err(Refusal::Image(image::Refusal::Strangers));
     }
-    meet_stalls(state, n, p, q, out)
+    let n = usize::from(state[0]);
+    let mut copy = [0u8; LONGEST];
+    let mut verdicts = [0u8; STALLS];
+    let count = length_of(n);
+    let answer = meet_at(
+        state,
+        first.start,
+        second.start,
+        &mut copy[..count],
+        &mut verdicts[..n],
+    );
+    let label = answered(answer)?;
+    Ok(reply_with(out, label, &verdicts[..n]))
 }
 
 // Shows the image of the head at a stall.
-fn show(state: &[u8], stall: u8, out: &mut [u8]) -> usize
+fn show(state: &[u8], stall: u8, out: &mut [u8]) -> Result<usize, Refusal>
     requires { Opened state.now out.old }
-    ensures { outcome result state.now out.new ≡ replied out.old (showing state.now stall) }
+    ensures { finished result state.now out.new ≡ replied out.old (showing state.now stall) }
 {
-    let n = state[0];
-    if bad_stall(n, stall) {
-        return reply_byte(out, 3);
-    }
-    let at = place_of(stall);
-    let count = length_of(wide(n));
-    reply_bytes(out, &state[at..at + count])
+    let slot = slot_of(state, stall)?;
+    Ok(reply_bytes(out, &state[slot.start..slot.end]))
 }
 
-// Shows the heard list of the head at a stall.
-fn heard(state: &[u8], stall: u8, out: &mut [u8]) -> usize
+// Shows the heard list of the head at a stall. (`settled` looks alike but is no twin: its call answers 0 and not a count, and all of its buffer is told.)
+fn heard(state: &[u8], stall: u8, out: &mut [u8]) -> Result<usize, Refusal>
     requires { Opened state.now out.old }
-    ensures { outcome result state.now out.new ≡ replied out.old (hearing state.now stall) }
+    ensures { finished result state.now out.new ≡ replied out.old (hearing state.now stall) }
 {
-    let n = state[0];
-    if bad_stall(n, stall) {
-        return reply_byte(out, 3);
-    }
-    let at = place_of(stall);
-    let m = wide(n);
-    let end = at + length_of(m);
+    let slot = slot_of(state, stall)?;
+    let n = usize::from(state[0]);
     let mut records = [0u8; 3 * STALLS];
-    let count = head::wilbryn_heard(&state[at..end], &mut records[..3 * m]);
-    if 256 <= count {
-        return reply_byte(out, (count - 256) as u8);
-    }
-    let used = 3 * (count as usize);
-    reply_with(out, count as u8, &records[..used])
+    let answer = head::wilbryn_heard(&state[slot.start..slot.end], &mut records[..3 * n]);
+    let count = answered(answer)?;
+    Ok(reply_with(out, count, &records[..3 * usize::from(count)]))
 }
 
 // Shows for each stall how many stalls the head at the named one knows to have heard its latest of that stall.
-fn settled(state: &[u8], stall: u8, out: &mut [u8]) -> usize
+fn settled(state: &[u8], stall: u8, out: &mut [u8]) -> Result<usize, Refusal>
     requires { Opened state.now out.old }
-    ensures { outcome result state.now out.new ≡ replied out.old (settling state.now stall) }
+    ensures { finished result state.now out.new ≡ replied out.old (settling state.now stall) }
 {
-    let n = state[0];
-    if bad_stall(n, stall) {
-        return reply_byte(out, 3);
-    }
-    let at = place_of(stall);
-    let m = wide(n);
-    let end = at + length_of(m);
+    let slot = slot_of(state, stall)?;
+    let n = usize::from(state[0]);
     let mut counts = [0u8; STALLS];
-    let number = head::wilbryn_settled(&state[at..end], &mut counts[..m]);
-    if number != 0 {
-        return reply_byte(out, number as u8);
-    }
-    reply_bytes(out, &counts[..m])
+    let number = head::wilbryn_settled(&state[slot.start..slot.end], &mut counts[..n]);
+    accepted(number)?;
+    Ok(reply_bytes(out, &counts[..n]))
 }
 
 // The answer to a frame while a parlour is open.
-fn answer_open(state: &mut [u8], frame: Frame, out: &mut [u8]) -> usize
+fn reply_open(state: &mut [u8], frame: Frame, out: &mut [u8]) -> Result<usize, Refusal>
     requires { Opened state.old out.old }
-    ensures { outcome result state.new out.new ≡ replied out.old (reply_to state.old true frame) }
+    ensures { finished result state.new out.new ≡ replied out.old (reply_to state.old true frame) }
 {
     match frame {
-        Frame::Bad => reply_byte(out, 10),
-        Frame::Open(_) => reply_byte(out, 11),
+        Frame::Bad => Err(Refusal::Line),
+        Frame::Open(_) => Err(Refusal::Opening),
         Frame::Milking(stall, given) => milk(state, stall, given, out),
         Frame::Meeting(p, q) => meet(state, p, q, out),
         Frame::Show(stall) => show(state, stall, out),
@@ -191,18 +162,26 @@ fn answer_open(state: &mut [u8], frame: Frame, out: &mut [u8]) -> usize
 }
 
 // The answer to a frame before a parlour is open.
-fn answer_shut(state: &mut [u8], frame: Frame, out: &mut [u8]) -> usize
+fn reply_shut(state: &mut [u8], frame: Frame, out: &mut [u8]) -> Result<usize, Refusal>
     requires { Ready state.old out.old }
-    ensures { outcome result state.new out.new ≡ replied out.old (reply_to state.old false frame) }
+    ensures { finished result state.new out.new ≡ replied out.old (reply_to state.old false frame) }
 {
     match frame {
-        Frame::Bad => reply_byte(out, 10), // 10 comes before 11.
+        Frame::Bad => Err(Refusal::Line), // 10 comes before 11.
         Frame::Open(n) => open(state, n, out),
-        Frame::Milking(_, _) => reply_byte(out, 11),
-        Frame::Meeting(_, _) => reply_byte(out, 11),
-        Frame::Show(_) => reply_byte(out, 11),
-        Frame::Heard(_) => reply_byte(out, 11),
-        Frame::Settled(_) => reply_byte(out, 11),
+        _ => Err(Refusal::Opening),
+    }
+}
+
+// The answer to a frame, or its refusal.
+fn reply(state: &mut [u8], frame: Frame, out: &mut [u8]) -> Result<usize, Refusal>
+    requires { Ready state.old out.old }
+    ensures { finished result state.new out.new ≡ replied out.old (reply_to state.old (is_open state.old) frame) }
+{
+    if is_count(state[0]) {
+        reply_open(state, frame, out)
+    } else {
+        reply_shut(state, frame, out)
     }
 }
 
@@ -217,9 +196,8 @@ pub fn answer(state: &mut [u8], line: &[u8], out: &mut [u8]) -> usize
     if out.len() < ANSWER {
         return 0;
     }
-    let parsed = frame::parse(line);
-    if is_count(state[0]) {
-        return answer_open(state, parsed, out);
+    match reply(state, frame::parse(line), out) {
+        Ok(count) => count,
+        Err(refusal) => reply_byte(out, refusal.number()),
     }
-    answer_shut(state, parsed, out)
 }

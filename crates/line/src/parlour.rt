@@ -1,32 +1,37 @@
 // The state between lines: N, then a slot for each stall; a parlour just opened, and a meeting of two of its heads.
-ghost use Rattle.std.specs.Prelude.{◌≡◌, ◌++◌, ◌+◌, ◌≤◌, length, take, drop};
-ghost use Rattle.std.proofs.Math.Seq.{paste};
+ghost use Rattle.std.specs.Prelude.{◌≡◌, true, ◌++◌, ◌+◌, ◌≤◌, length, take, drop, IfOk, IfErr};
+ghost use Rattle.image.specs.Check.{bad_stall};
 ghost use Rattle.image.specs.Layout.{largest, longest};
 ghost use Rattle.image.specs.Stalls.{each};
-ghost use Rattle.line.specs.Parlour.{state_length, slot_place, fresh_slot, fresh_state};
-ghost use Rattle.line.specs.Asked.{MetAt};
+ghost use Rattle.line.specs.Parlour.{state_length, heads_of, fresh_slot, fresh_state};
+ghost use Rattle.line.specs.Asked.{IsSlot, MetAt};
+ghost use Rattle.image.specs.declared.Refusal.TheVariants.{Stall};
+ghost use Rattle.line.specs.declared.refusal.Refusal.TheVariants.{Image};
 
-use image::bytes::{clear_from, wide};
-use image::{Head, LARGEST, LONGEST};
+use crate::refusal::Refusal;
+use image::bytes::{bad_stall, clear_from};
+use image::{Head, LARGEST, LONGEST, length_of};
 
-// Where the slot of a stall starts.
-pub(crate) fn place_of(stall: u8) -> usize
-    requires { 1 ≤ stall }
-    ensures { result ≡ slot_place stall }
-{
-    1 + (wide(stall) - 1) * LONGEST
+// The bytes of a head's image in the state.
+#[derive(Clone, Copy, Debug, PartialEq, Eq)]
+pub(crate) struct Slot {
+    pub(crate) start: usize,
+    pub(crate) end: usize,
 }
 
-// What stands in a run from a place on, to a place of another.
-fn copy(to: &mut [u8], at: usize, from: &[u8], start: usize, count: usize)
-    requires { (at + count ≤ length to.old) × (start + count ≤ length from.now) }
-    ensures { to.new ≡ paste to.old at (drop start from.now) count }
+// The slot of a stall, which is refused where the parlour has no such stall.
+pub(crate) fn slot_of(state: &[u8], stall: u8) -> Result<Slot, Refusal>
+    requires { (length state.now ≡ state_length) × (2 ≤ heads_of state.now) × (heads_of state.now ≤ largest) }
+    ensures found { IfOk result (λ slot. IsSlot state.now stall slot.start slot.end) }
+    ensures refused { IfErr result (λ e. (e ≡ Image Stall) × (bad_stall (heads_of state.now) stall ≡ true)) }
 {
-    let mut i = 0usize;
-    while i < count {
-        to[at + i] = from[start + i];
-        i += 1;
+    let n = state[0];
+    if bad_stall(n, stall) {
+        return Err(Refusal::Image(image::Refusal::Stall));
     }
+    let start = 1 + (usize::from(stall) - 1) * LONGEST;
+    let end = start + length_of(usize::from(n));
+    Ok(Slot { start, end })
 }
 
 // The heads whose images start at two places meet. The second's is lent as a copy, in a run as long as an image.
@@ -41,9 +46,9 @@ pub(crate) fn meet_at(
     ensures { MetAt state.old a b (length second.old) verdicts.old result state.new verdicts.new }
 {
     let count = second.len();
-    copy(second, 0, state, b, count);
+    second.copy_from_slice(&state[b..b + count]);
     let answer = head::wilbryn_meeting(&mut state[a..a + count], second, verdicts);
-    copy(state, b, second, 0, count);
+    state[b..b + count].copy_from_slice(second);
     answer
 }
 
@@ -65,12 +70,9 @@ fn open_slots(state: &mut [u8], n: u8)
     requires { (length state.old ≡ state_length) × (2 ≤ n) × (n ≤ largest) }
     ensures { state.new ≡ take 1 state.old ++ each largest (fresh_slot n) }
 {
-    let mut at = 1usize;
-    let mut r = 0u8;
-    while r < LARGEST {
+    for r in 0..LARGEST {
+        let at = 1 + usize::from(r) * LONGEST;
         open_slot(&mut state[at..at + LONGEST], n, r + 1);
-        at += LONGEST;
-        r += 1;
     }
 }
 

@@ -120,6 +120,10 @@ answers_next block taken {state} {out} {k} {k₂ = k₂} {end₂ = end₂} {stat
     subst (λ i. Answers state k i out 0 end₂ state₂ k₂ out₂) (sym (ap (λ i. take i block) (add-one taken) ∙ take-suc block taken 0 l))
     (answers_join (take taken block) (get_or block taken 0 ∷ []) fits v w)
 
+pub answers_whole : (block : List ℕ) {taken : ℕ} {state out : List ℕ} {k k₁ : Kept} {end : ℕ} {state₁ out₁ : List ℕ} → taken ≡ length block → Answers state k (take taken block) out 0 end state₁ k₁ out₁
+    → Answers state k (take (length block) block) out 0 end state₁ k₁ out₁
+answers_whole block {state = state} {out} {k} {k₁} {end} {state₁} {out₁} e = subst (λ i. Answers state k (take i block) out 0 end state₁ k₁ out₁) e
+
 -- the last line, where some of one is kept
 pub last_some : (state line : List ℕ) → 1 ≤ length line → line_output state line ≡ last_output state line
 last_some state [] l = absurd (omega arith)

@@ -63,3 +63,7 @@ module _ {state text : List ℕ} {kept : ℕ} {out : List ℕ} {end : ℕ} {stat
   end_within =
       let said = (last_output state (take kept text)).answers in
       omega (arith, ap (λ o. o.end) last_of, ap (λ o. length o.out) last_of, length-append said (drop (0 + length said) out))
+
+pub ruleset feeds = (ready, feed_taken, feed_nothing)
+
+pub ruleset finishes = (ready, finish_last, finish_nothing)

@@ -105,3 +105,5 @@ last_kept input state {k} {next} fits none e =
     let begins : kept_line k ≡ take longest_line [] = ap (λ n. take n k.text) none in
     last_alike state (kept_line next) (line_after [] input)
     (ap (λ x. take longest_line (kept_line x)) e ∙ ap (take longest_line) (line_kept k [] input fits begins) ∙ take-take longest_line longest_line (line_after [] input) (omega arith))
+
+pub ruleset keeps = (byte_kept, byte_dropped)

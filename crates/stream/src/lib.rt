@@ -15,15 +15,18 @@ pub const LINE: usize = 9;
 // The longest answer and a newline.
 pub const ROOM: usize = ANSWER + 1;
 
+// The line so far is the front of `text`, `kept` bytes of it, and `state`, `text` and `out` are lent one by one: so `feed` and `finish` have
+// it, whose contracts may not change, and the functions inside follow.
+
 // How many bytes of the line so far are kept, and where the answers end.
-#[derive(Clone, Copy)]
+#[derive(Clone, Copy, Debug, PartialEq, Eq)]
 struct Place {
     kept: usize,
     end: usize,
 }
 
 // How much of a block was taken, how many bytes of the last line are kept, and how long the answers are.
-#[derive(Clone, Copy)]
+#[derive(Clone, Copy, Debug, PartialEq, Eq)]
 pub struct Fed {
     pub taken: usize,
     pub kept: usize,
@@ -31,6 +34,7 @@ pub struct Fed {
 }
 
 // The lent runs have the right lengths.
+#[tactic(auto, unfolding(crate::specs::Call::is_ready))]
 fn is_ready(state: &[u8], text: &[u8], kept: usize, out: &[u8]) -> bool
     ensures { result ≡ is_ready state.now text.now kept out.now }
 {
@@ -38,6 +42,7 @@ fn is_ready(state: &[u8], text: &[u8], kept: usize, out: &[u8]) -> bool
 }
 
 // One byte more of a line.
+#[tactic(auto, using(crate::proofs::Keeping::keeps))]
 fn keep(text: &mut [u8], kept: usize, byte: u8) -> usize
     requires { length text.old ≡ longest_line }
     ensures { keeping text.new result ≡ with_byte (keeping text.old kept) byte }
@@ -91,10 +96,9 @@ fn feed_all(state: &mut [u8], text: &mut [u8], kept: usize, block: &[u8], out: &
     requires { Ready state.old text.old kept out.old }
     ensures { Taken state.old text.old kept block.now out.old result state.new text.new out.new }
 {
-    let mut taken = 0usize;
     let mut held = kept;
-    let mut end = 0usize;
-    while taken < block.len() {
+    let mut end = 0;
+    for (taken, &byte) in block.iter().enumerate() {
         if out.len() - end < ROOM {
             return Fed {
                 taken,
@@ -102,13 +106,12 @@ fn feed_all(state: &mut [u8], text: &mut [u8], kept: usize, block: &[u8], out: &
                 end,
             };
         }
-        let s = step(state, text, held, block[taken], out, end);
-        held = s.kept;
-        end = s.end;
-        taken += 1;
+        let place = step(state, text, held, byte, out, end);
+        held = place.kept;
+        end = place.end;
     }
     Fed {
-        taken,
+        taken: block.len(),
         kept: held,
         end,
     }
@@ -116,6 +119,7 @@ fn feed_all(state: &mut [u8], text: &mut [u8], kept: usize, block: &[u8], out: &
 
 // Answers the lines that the front of a block ends, at the front of out; the line so far goes on in text. Where the runs have not
 // STATE, LINE and at least ROOM bytes, or more than LINE are said to be kept, it takes nothing.
+#[tactic(auto, using(crate::proofs::Calls::feeds))]
 pub fn feed(state: &mut [u8], text: &mut [u8], kept: usize, block: &[u8], out: &mut [u8]) -> Fed
     ensures { FeedCall state.old text.old kept block.now out.old result state.new text.new out.new }
 {
@@ -142,6 +146,7 @@ fn last_line(state: &mut [u8], text: &[u8], kept: usize, out: &mut [u8]) -> usiz
 
 // Answers a last line that no newline ended, at the front of out, and says how long the answer is: 0 where nothing is kept of one,
 // or the lent runs are not as feed wants them.
+#[tactic(auto, using(crate::proofs::Calls::finishes))]
 pub fn finish(state: &mut [u8], text: &[u8], kept: usize, out: &mut [u8]) -> usize
     ensures { ending result state.new out.new ≡ finish_call state.old text.now kept out.old }
 {

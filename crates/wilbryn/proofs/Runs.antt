@@ -2,15 +2,15 @@
 use Prim.Native.Nat.{ℕ, min}
 use mathlib.Core.Path.{◌≡◌, refl, sym, ap, subst, subst₂, ◌∙◌}
 use mathlib.Core.Logic.{inl, inr}
+use Rattle.std.specs.Prelude.{Some, None, Result, Ok, Err}
 use mathlib.Core.List.{List, [], ◌∷◌, ◌++◌}
-use lib.IntN.{ℤ, pos, negsuc}
 use lib.ListN.{length, take}
 use Rattle.stream.specs.Stream.{empty_state, output, last_output}
 use Rattle.stream.specs.Call.{keeping}
 use Rattle.stream.proofs.Keeping.{Fits, last_kept}
-use Rattle.wilbryn.specs.Turn.{Went, LastWent, AfterBlock, AfterRead, TurnTaken, Gone, Ended, Ran}
-use Rattle.wilbryn.specs.declared.Turn.{Turn}
-use Rattle.wilbryn.specs.declared.Turn.TheVariants.{More, Over, Unread, Unwritten}
+use Rattle.wilbryn.specs.Turn.{Went, LastWent, AfterBlock, AfterRead, TurnTaken, Gone, Ended, Turn, Ran}
+use Rattle.wilbryn.specs.declared.Failure.{Failure}
+use Rattle.wilbryn.specs.declared.Failure.TheVariants.{Read, Write}
 use Rattle.wilbryn.proofs.Turns.{went_start, went_append}
 
 pub gone_start : {state text : List ℕ} → state ≡ empty_state → Gone text state text 0
@@ -34,19 +34,19 @@ module _ {text state₁ text₁ : List ℕ} {kept₁ : ℕ} (fits : Fits (keepin
   -- by what the read brought
   module _ (out state₂ text₂ out₂ : List ℕ) where
     block_ran : (block : List ℕ) (turn : Turn) → AfterBlock state₁ text₁ kept₁ block out state₂ text₂ out₂ turn → Ran text state₂ text₂ turn
-    block_ran [] (More kept) w = absurd w
-    block_ran [] Over w = record { after = ended w }
-    block_ran [] Unread w = absurd w
-    block_ran [] Unwritten w = record { after = inr (ended w) }
-    block_ran (b ∷ block) (More kept) (to, w) = record { after = (to, gone_more w) }
-    block_ran (b ∷ block) Over w = absurd w
-    block_ran (b ∷ block) Unread w = absurd w
-    block_ran (b ∷ block) Unwritten w = record { after = inl (record { kept' = w.kept'; gone = gone_more w.went }) }
+    block_ran [] (Ok (Some kept)) w = absurd w
+    block_ran [] (Ok None) w = record { after = ended w }
+    block_ran [] (Err Read) w = absurd w
+    block_ran [] (Err Write) w = record { after = inr (ended w) }
+    block_ran (b ∷ block) (Ok (Some kept)) (to, w) = record { after = (to, gone_more w) }
+    block_ran (b ∷ block) (Ok None) w = absurd w
+    block_ran (b ∷ block) (Err Read) w = absurd w
+    block_ran (b ∷ block) (Err Write) w = record { after = inl (record { kept' = w.kept'; gone = gone_more w.went }) }
 
-    read_ran : (input : List ℕ) (got : ℤ) (turn : Turn) → AfterRead state₁ text₁ kept₁ input got out state₂ text₂ out₂ turn → Ran text state₂ text₂ turn
-    read_ran input (pos count) turn w = block_ran (take (min count (length input)) input) turn w
-    read_ran input (negsuc count) turn (is, same, same_text, _) =
-        subst (Ran text state₂ text₂) (sym is) (subst₂ (λ s t. Ran text s t Unread) (sym same) (sym same_text) (record { after = record { kept' = kept₁; gone = before } }))
+    read_ran : (input : List ℕ) (got : Result ℕ Failure) (turn : Turn) → AfterRead state₁ text₁ kept₁ input got out state₂ text₂ out₂ turn → Ran text state₂ text₂ turn
+    read_ran input (Ok count) turn w = block_ran (take (min count (length input)) input) turn w
+    read_ran input (Err e) turn (is, same, same_text, _) =
+        subst (Ran text state₂ text₂) (sym is) (subst₂ (λ s t. Ran text s t (Err Read)) (sym same) (sym same_text) (record { after = record { kept' = kept₁; gone = before } }))
 
   pub turn_ran : {out state₂ text₂ input out₂ : List ℕ} {turn : Turn} → TurnTaken state₁ text₁ kept₁ out state₂ text₂ input out₂ turn → Ran text state₂ text₂ turn
   turn_ran {out} {state₂} {text₂} {input} {out₂} {turn} w = read_ran out state₂ text₂ out₂ input w.got turn w.answered.after

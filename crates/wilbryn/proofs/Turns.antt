@@ -1,23 +1,28 @@
--- A block in pieces.
-use Prim.Native.Nat.{ℕ, ◌+◌, ◌-◌, ◌≤◌, ◌<◌}
+-- A block in pieces, and how a turn ends where a write fails.
+use Prim.Native.Nat.{ℕ, ◌-◌, ◌≤◌}
 use mathlib.Core.Path.{◌≡◌, refl, sym, ap, subst, ◌∙◌}
-use mathlib.Core.List.{List, [], ◌++◌}
+use mathlib.Core.Bool.{Bool, true, false}
+use mathlib.Core.List.{List, [], ◌∷◌, ◌++◌, append_assoc, append-nil}
 use native.Mathlib.Omega.{arith}
-use lib.ListN.{length, take, drop, length-drop}
-use lib.Seq.{take-take, take-add, take_all, length-take-le}
+use Rattle.std.specs.Prelude.{Err, IsErr}
+use Rattle.std.specs.Result.{IsErrAnd}
+use Rattle.std.proofs.lemmas.Result.{err_from_is_err_and}
+use Rattle.std.proofs.Math.Seq.{take-append_seam}
+use Rattle.std.proofs.lemmas.Bool.{eqb-true, eqb-false}
+use lib.Dec.{eqb}
+use lib.ListN.{length, take, drop, take-append-drop, length-append, length-drop}
+use lib.Seq.{take_all, length-take-le}
 use Rattle.stream.specs.Stream.{output}
 use Rattle.stream.specs.Kept.{longest_line, kept_after}
-use Rattle.stream.specs.Call.{keeping, Ready, Answers, FeedCall}
+use Rattle.stream.specs.Call.{keeping, Ready, FeedCall}
 use Rattle.stream.specs.declared.Fed.{Fed}
 use Rattle.stream.proofs.Keeping.{Fits, kept_append, output_join}
 use Rattle.stream.proofs.Calls.{taken_of}
-use Rattle.wilbryn.specs.Turn.{Went}
+use Rattle.wilbryn.specs.Turn.{Turn, Went, WentPart, BlockAnswered}
+use Rattle.wilbryn.specs.declared.Failure.{Failure}
+use Rattle.wilbryn.specs.declared.Failure.TheVariants.{Write}
 
--- what is left of a block
-rest_long : (block : List ℕ) (at : ℕ) → length (take (length block - at) (drop at block)) ≡ length block - at
-rest_long block at = length-take-le (length block - at) (drop at block) (omega (arith, length-drop at block))
-
--- nothing yet, one piece more, all of it
+-- nothing yet, and one piece more
 pub went_start : {state text : List ℕ} {kept : ℕ} → Went state text kept [] state text kept
 unfolding output kept_after
 went_start = record { state_is = refl; kept_is = refl }
@@ -30,38 +35,80 @@ went_append {state} {text} {m} {n} {kept} {kept₁} {text₁ = text₁} fits v w
       kept_is = w.kept_is ∙ ap (λ k. kept_after k n) v.kept_is ∙ sym (kept_append (keeping text kept) m n);
     }
 
-went_more : (block : List ℕ) (at count : ℕ) {state text out : List ℕ} {kept kept₁ kept₂ end : ℕ} {state₁ text₁ state₂ text₂ out₂ : List ℕ} → Fits (keeping text kept)
-    → count ≤ length block - at → Went state text kept (take at block) state₁ text₁ kept₁
-    → Answers state₁ (keeping text₁ kept₁) (take count (take (length block - at) (drop at block))) out 0 end state₂ (keeping text₂ kept₂) out₂
-    → Went state text kept (take (at + count) block) state₂ text₂ kept₂
-went_more block at count {state} {text} {kept = kept} {kept₂ = kept₂} {state₂ = state₂} {text₂} fits l v w =
-    subst (λ i. Went state text kept i state₂ text₂ kept₂)
-    (ap (λ i. take at block ++ i) (take-take count (length block - at) (drop at block) l) ∙ sym (take-add at count block))
-    (went_append fits v (record { state_is = ap (λ o. o.state) w.answered; kept_is = w.kept_is }))
+-- the front of a block is answered, and this is the rest of it
+pub record Before (state text : List ℕ) (kept : ℕ) (block rest state' text' : List ℕ) (kept' : ℕ) : Type 0 where
+  pub front : List ℕ
+  pub joined : front ++ rest ≡ block
+  pub went : Went state text kept front state' text' kept'
+
+-- nothing of it yet, and all of it
+pub before_start : {state text block : List ℕ} {kept : ℕ} → Before state text kept block block state text kept
+before_start = record { front = []; joined = refl; went = went_start }
+
+pub before_end : {state text block rest state₁ text₁ : List ℕ} {kept kept₁ : ℕ} → length rest ≡ 0 → Before state text kept block rest state₁ text₁ kept₁
+    → Went state text kept block state₁ text₁ kept₁
+before_end {rest = []} e b = subst (λ i. Went _ _ _ i _ _ _) (sym (append-nil b.front) ∙ b.joined) b.went
+before_end {rest = x ∷ rest} e b = absurd (omega arith)
+
+-- whether there is a rest
+pub some_left : (rest : List ℕ) {b : Bool} → b ≡ eqb (length rest) 0 → b ≡ false → 1 ≤ length rest
+some_left [] e f = absurd (eqb-false 0 0 (sym e ∙ f) refl)
+some_left (x ∷ rest) e f = omega arith
+
+pub none_left : (rest : List ℕ) {b : Bool} → b ≡ eqb (length rest) 0 → b ≡ true → length rest ≡ 0
+none_left rest e f = eqb-true (length rest) 0 (sym e ∙ f)
 
 -- one piece more of a block, by a call of feed that is lent the rest of it
-pub record Piece (state text : List ℕ) (kept : ℕ) (block : List ℕ) (at : ℕ) (out : List ℕ) (fed : Fed) (state' text' : List ℕ) : Type 0 where
+pub record Piece (state text : List ℕ) (kept : ℕ) (block rest out : List ℕ) (fed : Fed) (state' text' : List ℕ) : Type 0 where
   pub some : 1 ≤ fed.taken
-  pub within : at + fed.taken ≤ length block
+  pub within : fed.taken ≤ length rest
   pub kept_to : fed.kept ≤ longest_line
   pub end_to : fed.end ≤ length out
-  pub went : Went state text kept (take (at + fed.taken) block) state' text' fed.kept
+  pub before : Before state text kept block (take (length rest - fed.taken) (drop fed.taken rest)) state' text' fed.kept
+  pub ahead : 1 ≤ length before.front
 
-pub piece : {state text : List ℕ} {kept : ℕ} (block : List ℕ) (at : ℕ) {state₁ text₁ : List ℕ} {kept₁ : ℕ} {out : List ℕ} {fed : Fed} {state₂ text₂ out₂ : List ℕ} → Fits (keeping text kept)
-    → Ready state₁ text₁ kept₁ out → at < length block → Went state text kept (take at block) state₁ text₁ kept₁
-    → FeedCall state₁ text₁ kept₁ (take (length block - at) (drop at block)) out fed state₂ text₂ out₂
-    → Piece state text kept block at out fed state₂ text₂
-piece block at {fed = fed} fits ready l v call =
-    let w = taken_of ready call in
-    let to : fed.taken ≤ length block - at = omega (arith, w.taken_to, rest_long block at) in
+pub piece : {state text out : List ℕ} {kept : ℕ} {block rest : List ℕ} {state₁ text₁ out₁ : List ℕ} {kept₁ : ℕ} {fed : Fed} {state₂ text₂ out₂ : List ℕ} → Ready state text kept out
+    → length state₁ ≡ length state → length text₁ ≡ length text → length out₁ ≡ length out → (kept₁ ≤ longest_line) × Before state text kept block rest state₁ text₁ kept₁
+    → 1 ≤ length rest → FeedCall state₁ text₁ kept₁ rest out₁ fed state₂ text₂ out₂ → Piece state text kept block rest out₁ fed state₂ text₂
+piece {rest = rest} {fed = fed} ready i j k (to, b) l call =
+    let w = taken_of (record { state_long = i ∙ ready.state_long; text_long = j ∙ ready.text_long; kept_to = to; out_long = omega (arith, k, ready.out_long) }) call in
     record {
-      some = w.taken_some (omega (arith, rest_long block at));
-      within = omega arith;
+      some = w.taken_some l;
+      within = w.taken_to;
       kept_to = w.kept_to;
       end_to = w.end_to;
-      went = went_more block at fed.taken fits to v w.answers;
+      before =
+          record {
+            front = b.front ++ take fed.taken rest;
+            joined =
+                ap (λ i. (b.front ++ take fed.taken rest) ++ i) (take_all (length rest - fed.taken) (drop fed.taken rest) (omega (arith, length-drop fed.taken rest)))
+                ∙ append_assoc b.front _ _
+                ∙ ap (λ i. b.front ++ i) (take-append-drop fed.taken rest)
+                ∙ b.joined;
+            went = went_append (record { long = ready.text_long; to = ready.kept_to }) b.went (record { state_is = ap (λ o. o.state) w.answers.answered; kept_is = w.answers.kept_is });
+          };
+      ahead = omega (arith, w.taken_some l, length-append b.front (take fed.taken rest), length-take-le fed.taken rest w.taken_to);
     }
 
-pub went_all : (block : List ℕ) (at : ℕ) {state text : List ℕ} {kept kept₁ : ℕ} {state₁ text₁ : List ℕ} → length block ≤ at → Went state text kept (take at block) state₁ text₁ kept₁
-    → Went state text kept block state₁ text₁ kept₁
-went_all block at {state} {text} {kept} {kept₁} {state₁} {text₁} l = subst (λ i. Went state text kept i state₁ text₁ kept₁) (take_all at block l)
+-- a failure, as `?` hands it on
+pub handed_on : (r : Turn) {e : Failure} → IsErr r × IsErrAnd r (λ x. x ≡ e) → r ≡ Err e
+handed_on r w = let p = err_from_is_err_and r w.1 in p.1 ∙ ap Err p.2
+
+pub write_failed : (r : Turn) {e : Failure} → IsErr r × IsErrAnd r (λ x. x ≡ e) → e ≡ Write → r ≡ Err Write
+write_failed r w i = handed_on r w ∙ ap Err i
+
+-- behind a piece: the block is answered up to there
+pub piece_unwritten : {state text : List ℕ} {kept : ℕ} {block rest out : List ℕ} {fed : Fed} {state₁ text₁ : List ℕ} {turn : Turn} → turn ≡ Err Write
+    → Piece state text kept block rest out fed state₁ text₁ → BlockAnswered state text kept block state₁ text₁ turn
+piece_unwritten {state} {text} {kept} {block} {rest} {fed = fed} {state₁} {text₁} e p =
+    let b = p.before in
+    let l = take (length rest - fed.taken) (drop fed.taken rest) in
+    let part : WentPart state text kept block state₁ text₁ =
+    record {
+      count = length b.front;
+      kept' = fed.kept;
+      some = p.ahead;
+      within = omega (arith, ap length b.joined, length-append b.front l);
+      went = subst (λ i. Went state text kept i state₁ text₁ fed.kept) (sym (take-append_seam b.front l) ∙ ap (take (length b.front)) b.joined) b.went;
+    } in
+    subst (BlockAnswered state text kept block state₁ text₁) (sym e) (record { after = part })

@@ -1,35 +1,54 @@
 // The line program: standard input, one frame a line, to standard output, one answer a line. It reads and writes; all else is `stream`.
 #![tactic(auto)]
 
-ghost use Rattle.std.specs.Prelude.{◌≡◌};
+ghost use Rattle.std.specs.Prelude.{◌≡◌, ◌≤◌, length, Some, IfOk, IfErr};
 ghost use Rattle.stream.specs.Call.{Ready};
-ghost use Rattle.wilbryn.specs.Turn.{standard_input, standard_output, BlockAnswered, RestAnswered, ReadAnswered, TurnTaken, Ran, Start};
+ghost use Rattle.wilbryn.specs.Turn.{standard_input, standard_output, BlockAnswered, RestAnswered, AfterBlock, TurnTaken, Ran, Start};
+ghost use Rattle.wilbryn.specs.declared.Failure.TheVariants.{Read as Unread, Write as Unwritten};
 
-use std::io::{Read, Stdin};
+use std::io::{Read, Stdin, Stdout, Write};
+use std::os::fd::AsRawFd;
 
-// The descriptors of standard input and standard output.
-const STDIN_FILENO: i32 = 0;
+// How many bytes a read brings at most, and how many of answers are written at once.
+const BLOCK: usize = 65536;
 
-const STDOUT_FILENO: i32 = 1;
-
-// Whether to go on, with as many bytes of the last line; or the input is over, or a read or a write failed.
-#[derive(Clone, Copy)]
-enum Turn {
-    More(usize),
-    Over,
-    Unread,
-    Unwritten,
+// What stops a run before its input is over: a read or a write that failed.
+#[derive(Clone, Copy, Debug, PartialEq, Eq)]
+enum Failure {
+    Read,
+    Write,
 }
 
-// Writes answers.
-fn write_to(descriptor: i32, answers: &[u8]) -> bool
-    requires { descriptor ≡ standard_output }
+// Some bytes of the last line are kept and the run goes on, or the input is over and it does not.
+type Turn = Result<Option<usize>, Failure>;
+
+// Where the lines come from, and where the answers go.
+#[derive(Clone, Copy, Debug)]
+struct Ends {
+    input: Stdin,
+    output: Stdout,
+}
+
+// Writes answers, to standard output alone: which descriptor a handle stands for is in its `raw_fd`.
+fn write_to<W: Write + AsRawFd + Drop>(mut to: W, answers: &[u8]) -> Result<(), Failure>
+    requires { W.raw_fd to ≡ Some standard_output }
+    ensures { IfErr result (λ e. e ≡ Unwritten) }
 {
-    io::write_all(descriptor, answers)
+    to.write_all(answers).map_err(|_| Failure::Write)
+}
+
+// Reads a block, from standard input alone, and answers how many bytes it brought.
+fn read_from<R: Read + AsRawFd + Drop>(mut from: R, block: &mut [u8]) -> Result<usize, Failure>
+    requires { R.raw_fd from ≡ Some standard_input }
+    ensures brought { IfOk result (λ n. n ≤ length block.new) }
+    ensures failed { IfErr result (λ e. e ≡ Unread) }
+{
+    from.read(block).map_err(|_| Failure::Read)
 }
 
 // Answers the lines that a block ends, and writes their answers as often as the buffer is full, and at the end.
 fn answer_block(
+    output: Stdout,
     state: &mut [u8],
     text: &mut [u8],
     kept: usize,
@@ -40,67 +59,48 @@ fn answer_block(
     ensures { BlockAnswered state.old text.old kept block.now state.new text.new result }
 {
     let mut held = kept;
-    let mut at = 0usize;
-    while at < block.len() {
-        let fed = stream::feed(state, text, held, &block[at..], out);
+    let mut rest = block;
+    // No `for`: each turn takes as much as `feed` had room for, which is known after it.
+    while !rest.is_empty() {
+        let fed = stream::feed(state, text, held, rest, out);
         held = fed.kept;
-        at += fed.taken;
-        let end = fed.end;
-        if !write_to(STDOUT_FILENO, &out[..end]) {
-            return Turn::Unwritten;
-        }
+        rest = &rest[fed.taken..];
+        write_to(output, &out[..fed.end])?;
     }
-    Turn::More(held)
+    Ok(Some(held))
 }
 
 // Answers a last line that no newline ended.
-fn answer_rest(state: &mut [u8], text: &[u8], kept: usize, out: &mut [u8]) -> Turn
+fn answer_rest(output: Stdout, state: &mut [u8], text: &[u8], kept: usize, out: &mut [u8]) -> Turn
     requires { Ready state.old text.now kept out.old }
     ensures { RestAnswered state.old text.now kept out.old state.new text.now out.new result }
 {
     let end = stream::finish(state, text, kept, out);
-    if write_to(STDOUT_FILENO, &out[..end]) {
-        return Turn::Over;
-    }
-    Turn::Unwritten
+    write_to(output, &out[..end])?;
+    Ok(None)
 }
 
-// Answers what a read put into the input buffer.
+// Answers what a read brought: nothing at the end of the input.
 fn answer_read(
+    output: Stdout,
     state: &mut [u8],
     text: &mut [u8],
     kept: usize,
-    input: &[u8],
-    got: isize,
+    block: &[u8],
     out: &mut [u8],
 ) -> Turn
     requires { Ready state.old text.old kept out.old }
-    ensures { ReadAnswered state.old text.old kept input.now got out.old state.new text.new out.new result }
+    ensures { AfterBlock state.old text.old kept block.now out.old state.new text.new out.new result }
 {
-    if got < 0 {
-        return Turn::Unread;
-    }
-    let n = io::count(got, input);
-    if n == 0 {
-        return answer_rest(state, text, kept, out);
-    }
-    answer_block(state, text, kept, &input[..n], out)
-}
-
-// Reads a block, and answers how many bytes it brought, or -1 where the read failed. Of the descriptors there is a handle for standard
-// input alone.
-fn read_from(mut stdin: Stdin, descriptor: i32, input: &mut [u8]) -> isize
-    requires { descriptor ≡ standard_input }
-{
-    match stdin.read(input) {
-        Ok(count) => count as isize,
-        Err(_) => -1,
+    match block.len() {
+        0 => answer_rest(output, state, text, kept, out),
+        _ => answer_block(output, state, text, kept, block, out),
     }
 }
 
 // Reads a block and answers it. Every answer so far is written before the read, which may wait.
 fn read_block(
-    stdin: Stdin,
+    ends: Ends,
     state: &mut [u8],
     text: &mut [u8],
     kept: usize,
@@ -110,30 +110,34 @@ fn read_block(
     requires { Ready state.old text.old kept out.old }
     ensures { TurnTaken state.old text.old kept out.old state.new text.new input.new out.new result }
 {
-    let got = read_from(stdin, STDIN_FILENO, input);
-    answer_read(state, text, kept, input, got, out)
+    let count = read_from(ends.input, input)?;
+    answer_read(ends.output, state, text, kept, &input[..count], out)
 }
 
 // A proved loop has to end, and nothing says that the input does: so it counts to a number that no run uses up.
-fn run(stdin: Stdin, state: &mut [u8], text: &mut [u8], input: &mut [u8], out: &mut [u8]) -> Turn
+fn run(ends: Ends, state: &mut [u8], text: &mut [u8], input: &mut [u8], out: &mut [u8]) -> Turn
     requires { Start state.old text.old out.old }
     ensures { Ran text.old state.new text.new result }
 {
-    let mut kept = 0usize;
+    let mut kept = 0;
     for _ in 0..u64::MAX {
-        let next = read_block(stdin, state, text, kept, input, out);
-        let Turn::More(held) = next else {
-            return next;
-        };
-        kept = held;
+        match read_block(ends, state, text, kept, input, out)? {
+            Some(held) => kept = held,
+            None => return Ok(None),
+        }
     }
-    Turn::More(kept)
+    Ok(Some(kept))
 }
 
+// A read or a write that fails ends the program as the end of the input does: with status 0, and nothing said of it.
 fn main(rt: HostRuntime) {
+    let ends = Ends {
+        input: rt.stdin(),
+        output: rt.stdout(),
+    };
     let mut state = [0u8; line::STATE];
     let mut text = [0u8; stream::LINE];
-    let mut input = [0u8; 65536];
-    let mut out = [0u8; 65536];
-    run(rt.stdin(), &mut state, &mut text, &mut input, &mut out);
+    let mut input = [0u8; BLOCK];
+    let mut out = [0u8; BLOCK];
+    let _ = run(ends, &mut state, &mut text, &mut input, &mut out);
 }

@@ -1,30 +1,32 @@
 -- A milking of the head at a stall.
-use mathlib.Core.List.{[], ◌∷◌}
-use mathlib.Core.Path.{sym, ap, ◌∙◌}
+use mathlib.Core.Path.{refl, sym}
 use native.Mathlib.Omega.{arith}
-use Rattle.image.specs.Layout.{length_of}
-use Rattle.head.specs.Calls.{milking_call}
 use Rattle.line.proofs.Numbers.{milking_code}
-use Rattle.line.proofs.Replying.{replied_byte, stall_of, image_fits, the_image, part_long, put_image, milking_bad, milking_done}
+use Rattle.line.proofs.Replying.{replied_byte, milking_bad}
+use Rattle.line.proofs.AtStall.{stall_fits, refused_on, told_one}
+use Rattle.line.proofs.MilkingLine.{milking_is}
+use Rattle.image.specs.declared.Refusal.TheVariants.{Stall}
+use Rattle.line.specs.declared.refusal.Refusal.TheVariants.{Image, Call}
 use Rattle.line.proofs.milk.Goals as goal
 
-pub returns-then-bad_stall : goal.returns-then-bad_stall
-returns-then-bad_stall c = replied_byte _ 3 (milking_bad _ _ _ (sym c.bad_stall.ensures ∙ c.if-bad_stall.true)) c.reply_byte.ensures
-
-pub overflow_add-at : goal.overflow_add-at
-overflow_add-at c = omega (arith, image_fits c.args.state.now c.args.out.now c.args.stall c.place_of-at.result c.length_of-count.result c.requires (stall_of _ _ (sym c.bad_stall.ensures ∙ c.if-bad_stall.false)) c.place_of-at.ensures (c.length_of-count.ensures ∙ ap length_of c.wide.ensures.0))
+pub returns-in_err-slot : goal.returns-in_err-slot
+returns-in_err-slot c = let e = c.in_err-slot.ensures.refused in refused_on _ c.from_residual.result (Image Stall) 3 c.from_residual.ensures e.0 refl (milking_bad _ _ _ e.1)
 
 pub slice_bounds-wilbryn_milking-end : goal.slice_bounds-wilbryn_milking-end
-slice_bounds-wilbryn_milking-end c = image_fits c.args.state.now c.args.out.now c.args.stall c.place_of-at.result c.length_of-count.result c.requires (stall_of _ _ (sym c.bad_stall.ensures ∙ c.if-bad_stall.false)) c.place_of-at.ensures (c.length_of-count.ensures ∙ ap length_of c.wide.ensures.0)
+slice_bounds-wilbryn_milking-end c = stall_fits (record { opened = c.requires; slot = c.in_ok-slot.ensures.found; m_is = refl })
 
-pub overflow_cast-number : goal.overflow_cast-number
-overflow_cast-number c = omega (arith, milking_code _ _ c.wilbryn_milking-number.ensures)
+pub accepted-requires : goal.accepted-requires
+accepted-requires c = omega (arith, milking_code _ _ c.wilbryn_milking-number.ensures)
+
+pub returns-in_err-accepted : goal.returns-in_err-accepted
+returns-in_err-accepted c =
+    let call = c.wilbryn_milking-number in
+    refused_on _ c.from_residual-in_err-accepted.result (Call _) _ c.from_residual-in_err-accepted.ensures c.in_err-accepted.ensures.refused.0 refl
+    (milking_is (record { opened = c.requires; slot = c.in_ok-slot.ensures.found; m_is = refl }) c.args.given call.ensures call.auto.image)
 
 pub returns : goal.returns
 returns c =
-    let a = c.args in
-    let m = c.wilbryn_milking-number in
-    replied_byte _ m.result
-    (milking_done a.state.now _ _ (sym c.bad_stall.ensures ∙ c.if-bad_stall.false) (m.ensures ∙ ap (λ l. milking_call l a.given) (the_image c.args.state.now c.args.out.now c.args.stall c.place_of-at.result c.length_of-count.result c.requires (stall_of _ _ (sym c.bad_stall.ensures ∙ c.if-bad_stall.false)) c.place_of-at.ensures (c.length_of-count.ensures ∙ ap length_of c.wide.ensures.0)))
-    ∙ ap (λ s. record { bytes = m.result ∷ []; state = s }) (sym (put_image c.args.state.now c.args.out.now c.args.stall c.place_of-at.result c.length_of-count.result c.requires (stall_of _ _ (sym c.bad_stall.ensures ∙ c.if-bad_stall.false)) c.place_of-at.ensures (c.length_of-count.ensures ∙ ap length_of c.wide.ensures.0) m.new.image (m.auto.image ∙ part_long c.args.state.now c.args.out.now c.args.stall c.place_of-at.result c.length_of-count.result c.requires (stall_of _ _ (sym c.bad_stall.ensures ∙ c.if-bad_stall.false)) c.place_of-at.ensures (c.length_of-count.ensures ∙ ap length_of c.wide.ensures.0)))))
-    c.reply_byte-2.ensures
+    let call = c.wilbryn_milking-number in
+    replied_byte _ 0
+    (told_one (milking_is (record { opened = c.requires; slot = c.in_ok-slot.ensures.found; m_is = refl }) c.args.given call.ensures call.auto.image) (sym c.in_ok-accepted.ensures.zero))
+    c.reply_byte.ensures

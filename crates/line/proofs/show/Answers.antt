@@ -1,23 +1,31 @@
 -- Shows the image of the head at a stall.
-use mathlib.Core.Path.{sym, ap, ◌∙◌}
-use native.Mathlib.Omega.{arith}
-use Rattle.image.specs.Layout.{length_of}
-use Rattle.line.proofs.Replying.{replied_byte, replied_bytes, stall_of, image_short, image_fits, the_image, part_long}
-use Rattle.line.proofs.HeardLine.{showing_bad, showing_done}
+use mathlib.Core.Path.{refl}
 use mathlib.Core.List.{◌∷◌}
+use native.Mathlib.Omega.{arith}
+use Rattle.line.proofs.Replying.{replied_bytes}
+use Rattle.line.proofs.AtStall.{stall_fits, stall_part, stall_short, stall_image, refused_on}
+use Rattle.line.proofs.HeardLine.{showing_bad, showing_done}
+use Rattle.image.specs.declared.Refusal.TheVariants.{Stall}
+use Rattle.line.specs.declared.refusal.Refusal.TheVariants.{Image}
 use Rattle.line.proofs.show.Goals as goal
 
-pub returns-then-bad_stall : goal.returns-then-bad_stall
-returns-then-bad_stall c = replied_byte _ 3 (showing_bad _ _ (sym c.bad_stall.ensures ∙ c.if-bad_stall.true)) c.reply_byte.ensures
-
-pub overflow_add-at : goal.overflow_add-at
-overflow_add-at c = omega (arith, image_fits c.args.state.now c.args.out.now c.args.stall c.place_of-at.result c.length_of-count.result c.requires (stall_of _ _ (sym c.bad_stall.ensures ∙ c.if-bad_stall.false)) c.place_of-at.ensures (c.length_of-count.ensures ∙ ap length_of c.wide.ensures.0))
+pub returns-in_err-slot : goal.returns-in_err-slot
+returns-in_err-slot c = let e = c.in_err-slot.ensures.refused in refused_on _ c.from_residual.result (Image Stall) 3 c.from_residual.ensures e.0 refl (showing_bad _ _ e.1)
 
 pub slice_bounds-reply_bytes-end : goal.slice_bounds-reply_bytes-end
-slice_bounds-reply_bytes-end c = image_fits c.args.state.now c.args.out.now c.args.stall c.place_of-at.result c.length_of-count.result c.requires (stall_of _ _ (sym c.bad_stall.ensures ∙ c.if-bad_stall.false)) c.place_of-at.ensures (c.length_of-count.ensures ∙ ap length_of c.wide.ensures.0)
+slice_bounds-reply_bytes-end c = stall_fits (record { opened = c.requires; slot = c.in_ok-slot.ensures.found; m_is = refl })
 
 pub reply_bytes-requires : goal.reply_bytes-requires
-reply_bytes-requires c = omega (arith, part_long c.args.state.now c.args.out.now c.args.stall c.place_of-at.result c.length_of-count.result c.requires (stall_of _ _ (sym c.bad_stall.ensures ∙ c.if-bad_stall.false)) c.place_of-at.ensures (c.length_of-count.ensures ∙ ap length_of c.wide.ensures.0), image_short c.args.state.now c.args.out.now c.args.stall c.place_of-at.result c.length_of-count.result c.requires (stall_of _ _ (sym c.bad_stall.ensures ∙ c.if-bad_stall.false)) c.place_of-at.ensures (c.length_of-count.ensures ∙ ap length_of c.wide.ensures.0), c.requires.room)
+reply_bytes-requires c =
+    omega (
+      arith,
+      stall_part (record { opened = c.requires; slot = c.in_ok-slot.ensures.found; m_is = refl }),
+      stall_short (record { opened = c.requires; slot = c.in_ok-slot.ensures.found; m_is = refl }),
+      c.requires.room,
+    )
 
 pub returns : goal.returns
-returns c = replied_bytes _ (0 ∷ _) (showing_done _ _ _ (sym c.bad_stall.ensures ∙ c.if-bad_stall.false) (the_image c.args.state.now c.args.out.now c.args.stall c.place_of-at.result c.length_of-count.result c.requires (stall_of _ _ (sym c.bad_stall.ensures ∙ c.if-bad_stall.false)) c.place_of-at.ensures (c.length_of-count.ensures ∙ ap length_of c.wide.ensures.0))) (omega (arith, c.reply_bytes.ensures.0)) c.reply_bytes.ensures.1
+returns c =
+    replied_bytes _ (0 ∷ _)
+    (showing_done _ _ _ c.in_ok-slot.ensures.found.good (stall_image (record { opened = c.requires; slot = c.in_ok-slot.ensures.found; m_is = refl })))
+    (omega (arith, c.reply_bytes.ensures.0)) c.reply_bytes.ensures.1
