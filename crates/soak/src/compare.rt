@@ -1,184 +1,99 @@
 // What the history says of an item against what the calls did.
-use crate::history::Named;
-use crate::random::Item;
-use crate::sizes::ROOM;
-use crate::words::same;
-use crate::{calls, heard, history, random, settled, table, text};
+use crate::history::{History, Name, Place};
+use crate::item::Item;
+use crate::parlour::{Parlour, Step};
+use crate::table;
+use crate::telling::Telling;
+use std::alloc::AllocError;
 
-// What an item leaves besides the images. The buffer is the start of the verdicts.
-#[derive(Clone, Copy)]
-pub struct Outcome {
-    pub answer: u32,
-    pub verdicts: [u8; ROOM],
-}
-
-#[derive(Clone, Copy)]
+#[derive(Clone, Copy, Debug, PartialEq, Eq)]
 pub enum Difference {
-    Nothing,
     Answer,
     Verdicts,
-    Image(u16),
-    List(u16),
-    Counts(u16),
-    Text(u16),
+    Image(u8),
+    Told(Telling, u8),
     Names,
 }
 
-pub fn wanted(history: &mut [u16], n: u16, item: Item) -> Outcome {
-    let mut verdicts = [calls::UNWRITTEN; ROOM];
-    let answer = match item {
-        Item::Milking { stall, given } => history::milking(history, stall, given),
-        Item::Meeting {
-            first,
-            second,
-            buffer,
-        } => history::meeting(history, n, first, second, buffer, &mut verdicts),
-    };
-    Outcome { answer, verdicts }
+// Why a comparison stopped.
+#[derive(Debug, Drop)]
+pub enum Stop {
+    Differs(Difference),
+    Memory(AllocError),
 }
 
-pub fn done(images: &mut [u8], n: u16, item: Item) -> Outcome {
-    let mut verdicts = [calls::UNWRITTEN; ROOM];
-    let answer = match item {
-        Item::Milking { stall, given } => calls::milking(images, n, stall, given),
-        Item::Meeting {
-            first,
-            second,
-            buffer,
-        } => calls::meeting(images, n, first, second, buffer, &mut verdicts),
-    };
-    Outcome { answer, verdicts }
-}
-
-fn is_image_right(history: &[u16], image: &[u8], n: u16, head: u16) -> bool {
-    let mut wanted = calls::room();
-    table::put_image(history, n, head, &mut wanted);
-    same(&wanted, image)
-}
-
-// What of a head is not as the history says: its image, its heard list, or its numbers.
-fn of_head(history: &[u16], images: &[u8], n: u16, head: u16) -> Difference {
-    let image = calls::image_of(images, head);
-    if !is_image_right(history, &image, n, head) {
-        return Difference::Image(head);
-    }
-    if !heard::is_list_right(history, &image, n, head) {
-        return Difference::List(head);
-    }
-    if !settled::are_counts_right(history, &image, n, head) {
-        return Difference::Counts(head);
-    }
-    Difference::Nothing
-}
-
-fn is_none(difference: Difference) -> bool {
-    match difference {
-        Difference::Nothing => true,
-        _ => false,
+impl From<AllocError> for Stop {
+    fn from(error: AllocError) -> Stop {
+        Stop::Memory(error)
     }
 }
 
-// That of the first head that has one.
-fn of_heads(history: &[u16], images: &[u8], n: u16) -> Difference {
-    let mut head = 0u16;
-    while head < n {
-        head += 1;
-        let difference = of_head(history, images, n, head);
-        if !is_none(difference) {
-            return difference;
-        }
+fn check(is_right: bool, difference: Difference) -> Result<(), Stop> {
+    if is_right {
+        Ok(())
+    } else {
+        Err(Stop::Differs(difference))
     }
-    Difference::Nothing
-}
-
-// That of the heads that an item names alone, to save time: the images of the others were not lent.
-fn of_named(history: &[u16], images: &[u8], n: u16, item: Item) -> Difference {
-    match item {
-        Item::Milking { stall, given: _ } => of_head(history, images, n, stall),
-        Item::Meeting {
-            first,
-            second,
-            buffer: _,
-        } => {
-            let difference = of_head(history, images, n, first);
-            if !is_none(difference) {
-                return difference;
-            }
-            of_head(history, images, n, second)
-        }
-    }
-}
-
-// The panel of one head an item, to save time: after a meeting both have the same text.
-fn of_panel(history: &[u16], images: &[u8], n: u16, item: Item) -> Difference {
-    let head = random::head_of(item);
-    let image = calls::image_of(images, head);
-    if !text::is_text_right(history, &image, n, head) {
-        return Difference::Text(head);
-    }
-    Difference::Nothing
 }
 
 // A head's own row has another meeting under the name of this one.
-fn is_mistaken(history: &[u16], n: u16, head: u16, place: u16, name: Named) -> bool {
-    let mut r = 0u16;
-    while r < n {
-        r += 1;
-        let latest = history::latest(history, head, r);
-        if latest != place && history::is_named(history, latest, name) {
-            return true;
-        }
-    }
-    false
+fn is_mistaken(history: &History, head: u8, place: Option<Place>, name: Name) -> bool {
+    (1..=history.stalls())
+        .map(|r| history.latest(head, r))
+        .any(|latest| latest != place && history.is_named(latest, name))
 }
 
 // Some own row has another meeting under the name of the newest one. Names of older meetings need no
 // look: own rows only lose those.
-fn is_ambiguous(history: &[u16], n: u16) -> bool {
-    let place = history::count(history);
-    let name = history::name_of(history, place);
-    let mut head = 0u16;
-    while head < n {
-        head += 1;
-        if is_mistaken(history, n, head, place, name) {
-            return true;
-        }
-    }
-    false
+fn is_ambiguous(history: &History) -> bool {
+    let place = history.newest();
+    history.meeting(place).is_some_and(|newest| {
+        (1..=history.stalls()).any(|head| is_mistaken(history, head, place, newest.name))
+    })
 }
 
-// After an item the heads that it names are looked at, after a list's last item all.
-pub fn compare(
-    history: &[u16],
-    images: &[u8],
-    n: u16,
-    item: Item,
-    is_last: bool,
-    wanted: Outcome,
-    got: Outcome,
-) -> Difference {
-    let wanted_verdicts = wanted.verdicts;
-    let verdicts = got.verdicts;
-    if wanted.answer != got.answer {
-        return Difference::Answer;
+impl Parlour {
+    // What a head tells is as the history says.
+    fn check_telling(&self, head: u8, telling: Telling) -> Result<(), Stop> {
+        check(
+            telling.is_right(self, head)?,
+            Difference::Told(telling, head),
+        )
     }
-    if !same(&wanted_verdicts, &verdicts) {
-        return Difference::Verdicts;
+
+    // A head's image, its heard list and its numbers are as the history says.
+    fn check_head(&self, head: u8) -> Result<(), Stop> {
+        let wanted = table::image(self.alloc, &self.history, head)?;
+        check(
+            wanted.as_slice() == self.heads.run(head),
+            Difference::Image(head),
+        )?;
+        self.check_telling(head, Telling::List)?;
+        self.check_telling(head, Telling::Counts)
     }
-    let difference = if is_last {
-        of_heads(history, images, n)
-    } else {
-        of_named(history, images, n, item)
-    };
-    if !is_none(difference) {
-        return difference;
+
+    // After an item the heads that it names are looked at, to save time: the images of the others were
+    // not lent. After a list's last item all are.
+    fn check_heads(&self, item: Item, is_last: bool) -> Result<(), Stop> {
+        if is_last {
+            for head in 1..=self.stalls() {
+                self.check_head(head)?;
+            }
+            return Ok(());
+        }
+        self.check_head(item.head())?;
+        match item.other_head() {
+            Some(head) => self.check_head(head),
+            None => Ok(()),
+        }
     }
-    let difference = of_panel(history, images, n, item);
-    if !is_none(difference) {
-        return difference;
+
+    // The panel of one head an item, to save time: after a meeting both have the same text.
+    pub fn compare(&self, step: &Step, is_last: bool) -> Result<(), Stop> {
+        check(step.wanted.answer == step.got.answer, Difference::Answer)?;
+        check(step.wanted.run == step.got.run, Difference::Verdicts)?;
+        self.check_heads(step.item, is_last)?;
+        self.check_telling(step.item.head(), Telling::Panel)?;
+        check(!is_ambiguous(&self.history), Difference::Names)
     }
-    if is_ambiguous(history, n) {
-        return Difference::Names;
-    }
-    Difference::Nothing
 }

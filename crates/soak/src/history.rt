@@ -1,293 +1,276 @@
-// The history of a list, written from document 01 and its requests alone: it is handed the items, and
-// looks at no image and no answer. A meeting is its place in the history, from 1; 0 is none. Whose
-// news is newer is read from places and pasts; labels decide nothing here.
-//
-// It is one run of words: the number of meetings and what each head has, then the words of each
-// meeting, then for each meeting and each place whether that place lies in its past.
-use crate::sizes::{ITEMS, MOST, STALLS};
-use crate::words::{clear, get, put, put_byte};
+// The history of a list, written from the documents alone: it is handed the items, and looks at no image and no
+// answer. Whose news is newer is read from places and pasts; labels decide nothing here.
+use crate::item::Follower;
+use crate::sizes::{DONE, Refusal, YIELD_LIMIT, index};
+use std::alloc::{AllocError, Global};
+use std::cmp::Ordering;
 
-const HEADS: usize = 0;
+// Where a meeting stands in the history: later meetings stand higher. A place that is lacking, as that
+// of the latest of a stall that was never heard, is older than any.
+pub type Place = usize;
 
-const MEETINGS: usize = HEADS + 2 * (STALLS + 1);
-
-const PASTS: usize = MEETINGS + OF_MEETING * PLACES;
-
-pub const WORDS: usize = PASTS + PLACES * PLACES;
-
-// The places of the longest list, and 0.
-const PLACES: usize = ITEMS as usize;
-
-// The words of a meeting. Those from 1 on are the newest meetings of the stalls in its past.
-const LABEL: u16 = MOST + 1;
-
-const FIRST: u16 = MOST + 2;
-
-const SECOND: u16 = MOST + 3;
-
-const FIRST_YIELD: u16 = MOST + 4;
-
-const SECOND_YIELD: u16 = MOST + 5;
-
-const OF_MEETING: usize = STALLS + 6;
-
-// The words of a head.
-const LAST: u16 = 0;
-
-const CURRENT: u16 = 1;
-
-// The yield of a head that was not milked, and of a stall never heard.
-pub const NOT_MILKED: u16 = 0xffff;
+// A label is lower than this: all below are tried.
+const LABELS: u8 = 64;
 
 // A meeting as a name says it.
-#[derive(Clone, Copy)]
-pub struct Named {
-    pub first: u16,
-    pub second: u16,
-    pub label: u16,
+#[derive(Clone, Copy, Debug, PartialEq, Eq)]
+pub struct Name {
+    pub first: u8,
+    pub second: u8,
+    pub label: u8,
 }
 
-fn head_at(head: u16, word: u16) -> usize {
-    HEADS + 2 * (head as usize) + (word as usize)
-}
-
-fn meeting_at(place: u16, word: u16) -> usize {
-    MEETINGS + OF_MEETING * (place as usize) + (word as usize)
-}
-
-fn past_at(of: u16, place: u16) -> usize {
-    PASTS + PLACES * (of as usize) + (place as usize)
-}
-
-// No meeting, and no head was milked.
-pub fn open(history: &mut [u16]) {
-    clear(history);
-    let mut head = MOST;
-    while 0 < head {
-        put(history, head_at(head, CURRENT), NOT_MILKED);
-        head -= 1;
+impl Name {
+    pub fn has(self, stall: u8) -> bool {
+        self.first == stall || self.second == stall
     }
-}
 
-pub fn count(history: &[u16]) -> u16 {
-    get(history, HEADS)
-}
-
-// The place of a head's last meeting.
-pub fn last(history: &[u16], head: u16) -> u16 {
-    get(history, head_at(head, LAST))
-}
-
-pub fn current(history: &[u16], head: u16) -> u16 {
-    get(history, head_at(head, CURRENT))
-}
-
-pub fn label_of(history: &[u16], place: u16) -> u16 {
-    get(history, meeting_at(place, LABEL))
-}
-
-pub fn first_of(history: &[u16], place: u16) -> u16 {
-    get(history, meeting_at(place, FIRST))
-}
-
-pub fn second_of(history: &[u16], place: u16) -> u16 {
-    get(history, meeting_at(place, SECOND))
-}
-
-pub fn has(history: &[u16], place: u16, stall: u16) -> bool {
-    first_of(history, place) == stall || second_of(history, place) == stall
-}
-
-// Meeting a lies in the past of meeting b.
-pub fn is_in_past(history: &[u16], a: u16, b: u16) -> bool {
-    get(history, past_at(b, a)) == 1
-}
-
-// The newest meeting of r in the past of a meeting.
-pub fn newest(history: &[u16], place: u16, r: u16) -> u16 {
-    get(history, meeting_at(place, r))
-}
-
-// The latest of r for a head: a head's past is that of its last meeting.
-pub fn latest(history: &[u16], head: u16, r: u16) -> u16 {
-    newest(history, last(history, head), r)
-}
-
-// The yield that a stall had at a meeting of it; not milked where there is none.
-pub fn yield_at(history: &[u16], place: u16, stall: u16) -> u16 {
-    if place == 0 {
-        NOT_MILKED
-    } else if first_of(history, place) == stall {
-        get(history, meeting_at(place, FIRST_YIELD))
-    } else {
-        get(history, meeting_at(place, SECOND_YIELD))
-    }
-}
-
-// 1 if the first place is newer, 2 if the second is; none is older than any meeting.
-fn newer(first: u16, second: u16) -> u8 {
-    if second < first {
-        1
-    } else if first < second {
-        2
-    } else {
-        0
-    }
-}
-
-// The verdicts on stalls 1 to n before a meeting of two heads.
-fn put_verdicts(history: &[u16], n: u16, first: u16, second: u16, verdicts: &mut [u8]) {
-    let mut r = 0u16;
-    while r < n {
-        let at = r as usize;
-        r += 1;
-        put_byte(
-            verdicts,
-            at,
-            newer(latest(history, first, r), latest(history, second, r)),
-        );
-    }
-}
-
-pub fn name_of(history: &[u16], place: u16) -> Named {
-    Named {
-        first: first_of(history, place),
-        second: second_of(history, place),
-        label: label_of(history, place),
-    }
-}
-
-// The meeting at a place is between the same two heads and has this label.
-pub fn is_named(history: &[u16], place: u16, name: Named) -> bool {
-    place != 0
-        && has(history, place, name.first)
-        && has(history, place, name.second)
-        && label_of(history, place) == name.label
-}
-
-// One of the newest meetings in the past of a meeting has this name.
-fn is_named_in_past(history: &[u16], n: u16, place: u16, name: Named) -> bool {
-    let mut r = 0u16;
-    while r < n {
-        r += 1;
-        if is_named(history, newest(history, place, r), name) {
-            return true;
+    // The other stall of a meeting of one.
+    pub fn partner(self, stall: u8) -> u8 {
+        if self.first == stall {
+            self.second
+        } else {
+            self.first
         }
     }
-    false
+
+    // The same two heads, in either order, and the same label.
+    pub fn is_same(self, other: Name) -> bool {
+        self.label == other.label && self.has(other.first) && self.has(other.second)
+    }
 }
 
-// One of a head's latests has this name, or one of the newest meetings in the pasts of these.
-fn is_held(history: &[u16], n: u16, head: u16, name: Named) -> bool {
-    let mut s = 0u16;
-    while s < n {
-        s += 1;
-        let place = latest(history, head, s);
-        if is_named(history, place, name) || is_named_in_past(history, n, place, name) {
-            return true;
+#[derive(Debug, Drop)]
+pub struct Meeting {
+    pub name: Name,
+    first_yield: Option<u16>,
+    second_yield: Option<u16>,
+    // For each place up to its own whether that meeting lies in its past.
+    past: Vec<bool>,
+    // For each stall the newest meeting of it in the past.
+    newest: Vec<Option<Place>>,
+}
+
+impl Meeting {
+    // The newest meeting of a stall in its past.
+    pub fn newest(&self, stall: u8) -> Option<Place> {
+        self.newest.get(index(stall)).copied().flatten()
+    }
+
+    // The yield that one of its stalls had; none where it was not milked.
+    pub fn yield_of(&self, stall: u8) -> Option<u16> {
+        if self.name.first == stall {
+            self.first_yield
+        } else {
+            self.second_yield
         }
     }
-    false
 }
 
-// The lowest label that neither head holds of a meeting between the two; 64 if all below are held.
-fn new_label(history: &[u16], n: u16, first: u16, second: u16) -> u16 {
-    let mut label = 0u16;
-    while label < 64 {
-        let name = Named {
-            first,
-            second,
-            label,
+// A head: its last meeting, and its yield, none where it was not milked.
+#[derive(Clone, Copy, Debug, PartialEq, Eq)]
+struct Head {
+    last: Option<Place>,
+    current: Option<u16>,
+}
+
+#[derive(Debug, Drop)]
+pub struct History {
+    stalls: u8,
+    heads: Vec<Head>,
+    meetings: Vec<Meeting>,
+}
+
+impl History {
+    // No meeting, and no head was milked.
+    pub fn new(alloc: Global, stalls: u8) -> Result<History, AllocError> {
+        let head = Head {
+            last: None,
+            current: None,
         };
-        if !is_held(history, n, first, name) && !is_held(history, n, second, name) {
-            return label;
+        Ok(History {
+            stalls,
+            heads: vec![in alloc; head; usize::from(stalls)]?,
+            meetings: Vec::new(alloc),
+        })
+    }
+
+    pub fn stalls(&self) -> u8 {
+        self.stalls
+    }
+
+    pub fn meetings(&self) -> &[Meeting] {
+        self.meetings.as_slice()
+    }
+
+    // The meeting at a place; none at none.
+    pub fn meeting(&self, place: Option<Place>) -> Option<&Meeting> {
+        self.meetings.get(place?)
+    }
+
+    // The place of the newest meeting.
+    pub fn newest(&self) -> Option<Place> {
+        self.meetings.len().checked_sub(1)
+    }
+
+    // The place of a head's last meeting. The past of that is the head's.
+    fn last(&self, head: u8) -> Option<Place> {
+        self.heads.get(index(head))?.last
+    }
+
+    // A head's yield; none where it was not milked.
+    pub fn current(&self, head: u8) -> Option<u16> {
+        self.heads.get(index(head))?.current
+    }
+
+    // The latest of a stall for a head.
+    pub fn latest(&self, head: u8, stall: u8) -> Option<Place> {
+        self.meeting(self.last(head))?.newest(stall)
+    }
+
+    // The yield that a stall had at a meeting of it.
+    pub fn yield_at(&self, place: Option<Place>, stall: u8) -> Option<u16> {
+        self.meeting(place)?.yield_of(stall)
+    }
+
+    // Meeting a lies in the past of meeting b. None lies in no past and has none.
+    pub fn is_in_past(&self, a: Option<Place>, b: Option<Place>) -> bool {
+        match (a, self.meeting(b)) {
+            (Some(a), Some(b)) => b.past.get(a) == Some(&true),
+            _ => false,
         }
-        label += 1;
     }
-    label
-}
 
-// The past of a new meeting is itself and the pasts of both heads: a chain to it comes through an
-// earlier meeting of one of them, and from there a chain runs to that head's last.
-fn put_past(history: &mut [u16], place: u16, first: u16, second: u16) {
-    let first_last = last(history, first);
-    let second_last = last(history, second);
-    let mut a = 0u16;
-    while a < place {
-        a += 1;
-        if a == place || is_in_past(history, a, first_last) || is_in_past(history, a, second_last) {
-            put(history, past_at(place, a), 1);
+    // The meeting at a place has this name.
+    pub fn is_named(&self, place: Option<Place>, name: Name) -> bool {
+        self.meeting(place)
+            .is_some_and(|meeting| meeting.name.is_same(name))
+    }
+
+    // One of the newest meetings in the past of a meeting has this name.
+    fn is_named_in_past(&self, place: Option<Place>, name: Name) -> bool {
+        self.meeting(place).is_some_and(|meeting| meeting
+            .newest
+            .iter()
+            .any(|&k| self.is_named(k, name)))
+    }
+
+    // One of a head's latests has this name, or one of the newest meetings in the pasts of these.
+    fn is_held(&self, head: u8, name: Name) -> bool {
+        self.meeting(self.last(head)).is_some_and(|last| {
+            last.newest.iter().any(|&k| self.is_named(k, name) || self.is_named_in_past(k, name))
+        })
+    }
+
+    // The lowest label that neither head holds of a meeting between the two; 64 if all below are held.
+    fn new_label(&self, first: u8, second: u8) -> u8 {
+        (0..LABELS)
+            .find(|&label| {
+                let name = Name {
+                    first,
+                    second,
+                    label,
+                };
+                !self.is_held(first, name) && !self.is_held(second, name)
+            })
+            .unwrap_or(LABELS)
+    }
+
+    // For each place up to a new one whether it lies in the new meeting's past, which is itself and the
+    // pasts of both heads: a chain to it comes through an earlier meeting of one of them, and from
+    // there a chain runs to that head's last.
+    fn new_past(&self, alloc: Global, name: Name) -> Result<Vec<bool>, AllocError> {
+        let one = self.last(name.first);
+        let two = self.last(name.second);
+        let mut past: Vec<bool> = (0..self.meetings.len())
+            .map(|a| self.is_in_past(Some(a), one) || self.is_in_past(Some(a), two))
+            .collect(alloc)?;
+        past.push(true)?;
+        Ok(past)
+    }
+
+    // The newest meeting of a stall in the past of a new one, looked for from the newest down.
+    fn find_newest(&self, name: Name, past: &[bool], stall: u8) -> Option<Place> {
+        let place = self.meetings.len();
+        if name.has(stall) {
+            return Some(place);
+        }
+        past.iter()
+            .zip(self.meetings.iter())
+            .rposition(|(&is_past, meeting)| is_past && meeting.name.has(stall))
+    }
+
+    // Adds a meeting at the next place.
+    fn add(&mut self, alloc: Global, name: Name) -> Result<(), AllocError> {
+        let place = self.meetings.len();
+        let past = self.new_past(alloc, name)?;
+        let newest = (1..=self.stalls)
+            .map(|stall| self.find_newest(name, past.as_slice(), stall))
+            .collect(alloc)?;
+        let first_yield = self.current(name.first);
+        let second_yield = self.current(name.second);
+        self.meetings.push(Meeting {
+            name,
+            first_yield,
+            second_yield,
+            past,
+            newest,
+        })?;
+        self.set_last(name.first, place);
+        self.set_last(name.second, place);
+        Ok(())
+    }
+
+    fn set_last(&mut self, head: u8, place: Place) {
+        if let Some(head) = self.heads.get_mut(index(head)) {
+            head.last = Some(place);
         }
     }
 }
 
-// The newest meeting of r in the past of a meeting, looked for from that meeting down.
-fn find_newest(history: &[u16], place: u16, r: u16) -> u16 {
-    let mut a = place;
-    while 0 < a {
-        if is_in_past(history, a, place) && has(history, a, r) {
-            return a;
+// It answers what the calls must answer, and writes what they must write.
+impl Follower for History {
+    // A milking counts when its yield is at most 999.
+    fn milk(&mut self, stall: u8, given: u16) -> u32 {
+        if given > YIELD_LIMIT {
+            return Refusal::Yield.number();
         }
-        a -= 1;
+        if let Some(head) = self.heads.get_mut(index(stall)) {
+            head.current = Some(given);
+        }
+        DONE
     }
-    0
-}
 
-fn put_newest(history: &mut [u16], n: u16, place: u16) {
-    let mut r = 0u16;
-    while r < n {
-        r += 1;
-        let found = find_newest(history, place, r);
-        put(history, meeting_at(place, r), found);
+    // A meeting counts when its buffer has n bytes. The verdict on a stall is 1 or 2 where the first or the second
+    // head's news of it is newer, else 0.
+    fn meet(
+        &mut self,
+        alloc: Global,
+        first: u8,
+        second: u8,
+        verdicts: &mut [u8],
+    ) -> Result<u32, AllocError> {
+        if verdicts.len() != usize::from(self.stalls) {
+            return Ok(Refusal::Buffer.answer());
+        }
+        for (stall, verdict) in (1..=self.stalls).zip(verdicts.iter_mut()) {
+            let one = self.latest(first, stall);
+            let two = self.latest(second, stall);
+            *verdict = match one.cmp(&two) {
+                Ordering::Greater => 1,
+                Ordering::Less => 2,
+                Ordering::Equal => 0,
+            };
+        }
+        let label = self.new_label(first, second);
+        self.add(
+            alloc,
+            Name {
+                first,
+                second,
+                label,
+            },
+        )?;
+        Ok(u32::from(label))
     }
-}
-
-// What is told of a meeting by itself: its stalls and their yields.
-fn put_stalls(history: &mut [u16], place: u16, first: u16, second: u16) {
-    let first_yield = current(history, first);
-    let second_yield = current(history, second);
-    put(history, meeting_at(place, FIRST), first);
-    put(history, meeting_at(place, SECOND), second);
-    put(history, meeting_at(place, FIRST_YIELD), first_yield);
-    put(history, meeting_at(place, SECOND_YIELD), second_yield);
-}
-
-// Adds a meeting at the next place.
-fn add_meeting(history: &mut [u16], n: u16, first: u16, second: u16, label: u16) {
-    let place = std::num::wrapping_add_u16(count(history), 1);
-    put(history, HEADS, place);
-    put(history, meeting_at(place, LABEL), label);
-    put_stalls(history, place, first, second);
-    put_past(history, place, first, second);
-    put_newest(history, n, place);
-    put(history, head_at(first, LAST), place);
-    put(history, head_at(second, LAST), place);
-}
-
-// A milking counts when its yield is at most 999. Answers what the call must answer.
-pub fn milking(history: &mut [u16], stall: u16, given: u16) -> u32 {
-    if given > 999 {
-        return 4;
-    }
-    put(history, head_at(stall, CURRENT), given);
-    0
-}
-
-// A meeting counts when its buffer has n bytes. Writes what the call must write there, and answers
-// what it must answer.
-pub fn meeting(
-    history: &mut [u16],
-    n: u16,
-    first: u16,
-    second: u16,
-    buffer: u16,
-    verdicts: &mut [u8],
-) -> u32 {
-    if buffer != n {
-        return 264;
-    }
-    let label = new_label(history, n, first, second);
-    put_verdicts(history, n, first, second, verdicts);
-    add_meeting(history, n, first, second, label);
-    label as u32
 }

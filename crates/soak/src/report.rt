@@ -1,160 +1,104 @@
-// What the program prints.
-use crate::compare::{Difference, Outcome};
-use crate::random::Item;
-use crate::sizes::ROOM;
-use crate::words::get_byte;
-use crate::{calls, heard, history, settled, table, text};
-
-pub fn say(text: &[u8]) {
-    io::write_all(1, text);
-}
-
-pub fn say_number(before: &[u8], number: u64) {
-    say(before);
-    io::print_decimal(1, number);
-}
-
-fn say_hex(before: &[u8], bytes: &[u8]) {
-    say(before);
-    let mut i = 0usize;
-    while i < bytes.len() {
-        io::print_hex(1, get_byte(bytes, i) as u64, 2);
-        i += 1;
-    }
-    say(b"\n");
-}
-
-fn say_item(item: Item) {
-    match item {
-        Item::Milking { stall, given } => {
-            say_number(b"  milking of ", stall as u64);
-            say_number(b", yield ", given as u64);
-        }
-        Item::Meeting {
-            first,
-            second,
-            buffer,
-        } => {
-            say_number(b"  meeting ", first as u64);
-            say_number(b"-", second as u64);
-            say_number(b", buffer ", buffer as u64);
-        }
-    }
-    say(b"\n");
-}
+// What the program says of a difference.
+use crate::compare::Difference;
+use crate::history::History;
+use crate::outcome::{Hex, Outcome, front};
+use crate::parlour::{Parlour, Step};
+use crate::sizes::PANEL;
+use crate::table;
+use crate::telling::Telling;
+use std::alloc::AllocError;
 
 // The meetings of the history, this one included if it counts.
-fn say_meetings(history: &[u16]) {
-    say(b"  meetings of the history:");
-    let last = history::count(history);
-    let mut place = 0u16;
-    while place < last {
-        place += 1;
-        say_number(b" ", history::first_of(history, place) as u64);
-        say_number(b"-", history::second_of(history, place) as u64);
+fn say_meetings(text: &mut String, history: &History) -> Result<(), AllocError> {
+    write!(text, "  meetings of the history:")?;
+    for meeting in history.meetings() {
+        write!(text, " {}-{}", meeting.name.first, meeting.name.second)?;
     }
-    say(b"\n");
+    writeln!(text, "")
 }
 
-fn say_outcome(wanted: Outcome, got: Outcome) {
-    let wanted_verdicts = wanted.verdicts;
-    let verdicts = got.verdicts;
-    say_number(b"  answer wanted ", wanted.answer as u64);
-    say_number(b", got ", got.answer as u64);
-    say_hex(b"\n  buffer wanted ", &wanted_verdicts);
-    say_hex(b"  buffer got    ", &verdicts);
+fn say_outcomes(text: &mut String, wanted: &Outcome, got: &Outcome) -> Result<(), AllocError> {
+    writeln!(
+        text,
+        "  answer wanted {}, got {}",
+        wanted.answer, got.answer
+    )?;
+    writeln!(text, "  buffer wanted {}", Hex(wanted.run.as_slice()))?;
+    writeln!(text, "  buffer got    {}", Hex(got.run.as_slice()))
 }
 
-fn say_image(history: &[u16], images: &[u8], n: u16, head: u16) {
-    let image = calls::image_of(images, head);
-    let mut wanted = calls::room();
-    table::put_image(history, n, head, &mut wanted);
-    say_number(b"  image of head ", head as u64);
-    say_hex(b"\n    wanted ", &wanted);
-    say_hex(b"    got    ", &image);
+fn say_image(text: &mut String, parlour: &Parlour, head: u8) -> Result<(), AllocError> {
+    let wanted = table::image(parlour.alloc, &parlour.history, head)?;
+    writeln!(text, "  image of head {head}")?;
+    writeln!(text, "    wanted {}", Hex(wanted.as_slice()))?;
+    writeln!(text, "    got    {}", Hex(parlour.heads.run(head)))
+}
+
+// What the history says. The numbers of what is settled come with no answer, a panel with no byte behind it.
+fn say_wanted(text: &mut String, telling: Telling, wanted: &Outcome) -> Result<(), AllocError> {
+    let answer = wanted.answer;
+    let run = wanted.run.as_slice();
+    match telling {
+        Telling::List => writeln!(text, "    answer {answer} wanted, {}", Hex(run)),
+        Telling::Counts => writeln!(text, "    wanted {}", Hex(run)),
+        Telling::Panel => writeln!(
+            text,
+            "    answer {answer} wanted, {}",
+            Hex(front(run, PANEL))
+        ),
+    }
 }
 
 // What the call answers and writes for a buffer of a length.
-fn say_heard(image: &[u8], n: u16, buffer: u16) {
-    let mut records = [calls::UNWRITTEN; heard::ROOM];
-    let answer = calls::heard(image, n, &mut records, buffer);
-    say_number(b"    buffer ", buffer as u64);
-    say_number(b": answer ", answer as u64);
-    say_hex(b", got ", &records);
+fn say_got(
+    text: &mut String,
+    parlour: &Parlour,
+    telling: Telling,
+    head: u8,
+    length: usize,
+) -> Result<(), AllocError> {
+    let got = telling.got(parlour, head, length)?;
+    let run = Hex(got.run.as_slice());
+    writeln!(
+        text,
+        "    buffer {length}: answer {}, got {run}",
+        got.answer
+    )
 }
 
-fn say_list(history: &[u16], images: &[u8], n: u16, head: u16) {
-    let image = calls::image_of(images, head);
-    let mut wanted = [calls::UNWRITTEN; heard::ROOM];
-    let count = heard::put_list(history, n, head, &mut wanted);
-    say_number(b"  heard list of head ", head as u64);
-    say_number(b"\n    answer ", count as u64);
-    say_hex(b" wanted, ", &wanted);
-    say_heard(&image, n, heard::buffer_of(n));
-    say_heard(&image, n, heard::longer(n));
-}
-
-// The same for the numbers of what is settled.
-fn say_settled(image: &[u8], n: u16, buffer: u16) {
-    let mut counts = [calls::UNWRITTEN; ROOM];
-    let answer = calls::settled(image, n, &mut counts, buffer);
-    say_number(b"    buffer ", buffer as u64);
-    say_number(b": answer ", answer as u64);
-    say_hex(b", got ", &counts);
-}
-
-fn say_counts(history: &[u16], images: &[u8], n: u16, head: u16) {
-    let image = calls::image_of(images, head);
-    let mut wanted = [calls::UNWRITTEN; ROOM];
-    settled::put_counts(history, n, head, &mut wanted);
-    say_number(b"  settled numbers of head ", head as u64);
-    say_hex(b"\n    wanted ", &wanted);
-    say_settled(&image, n, n);
-    say_settled(&image, n, settled::longer(n));
-}
-
-// The same for a panel.
-fn say_panel(image: &[u8], n: u16, buffer: usize) {
-    let mut text = [calls::UNWRITTEN; text::LONGER];
-    let answer = calls::panel(image, n, &mut text, buffer);
-    say_number(b"    buffer ", buffer as u64);
-    say_number(b": answer ", answer as u64);
-    say_hex(b", got ", &text);
-}
-
-fn say_text(history: &[u16], images: &[u8], n: u16, head: u16) {
-    let image = calls::image_of(images, head);
-    let mut wanted = [0u8; text::BUFFER];
-    let length = text::put_text(history, n, head, &mut wanted);
-    say_number(b"  panel of head ", head as u64);
-    say_number(b"\n    answer ", length as u64);
-    say_hex(b" wanted, ", &wanted);
-    say_panel(&image, n, text::BUFFER);
-    say_panel(&image, n, text::SHORTER);
-    say_panel(&image, n, text::LONGER);
+fn say_telling(
+    text: &mut String,
+    parlour: &Parlour,
+    telling: Telling,
+    head: u8,
+) -> Result<(), AllocError> {
+    let n = parlour.stalls();
+    writeln!(text, "  {telling} of head {head}")?;
+    say_wanted(text, telling, &telling.wanted(parlour, head)?)?;
+    say_got(text, parlour, telling, head, telling.length(n))?;
+    for other in telling.refused_lengths(n).into_iter().flatten() {
+        say_got(text, parlour, telling, head, other)?;
+    }
+    Ok(())
 }
 
 // The item, the meetings that led to it, and what was wanted and got.
-pub fn say_difference(
-    history: &[u16],
-    images: &[u8],
-    n: u16,
-    item: Item,
-    wanted: Outcome,
-    got: Outcome,
-    difference: Difference,
-) {
-    say_number(b"first difference of n = ", n as u64);
-    say(b"\n");
-    say_item(item);
-    say_meetings(history);
-    say_outcome(wanted, got);
+pub fn text(parlour: &Parlour, step: &Step, difference: Difference) -> Result<String, AllocError> {
+    let mut text = String::new(parlour.alloc);
+    writeln!(text, "first difference of n = {}", parlour.stalls())?;
+    writeln!(text, "  {}", step.item)?;
+    say_meetings(&mut text, &parlour.history)?;
+    say_outcomes(&mut text, &step.wanted, &step.got)?;
     match difference {
-        Difference::Image(head) => say_image(history, images, n, head),
-        Difference::List(head) => say_list(history, images, n, head),
-        Difference::Counts(head) => say_counts(history, images, n, head),
-        Difference::Text(head) => say_text(history, images, n, head),
-        Difference::Names => say(b"  two own rows have different meetings under one name\n"),
-        _ => {}
+        Difference::Image(head) => say_image(&mut text, parlour, head)?,
+        Difference::Told(telling, head) => say_telling(&mut text, parlour, telling, head)?,
+        Difference::Names => {
+            writeln!(
+                text,
+                "  two own rows have different meetings under one name"
+            )?
+        }
+        Difference::Answer | Difference::Verdicts => {}
     }
+    Ok(text)
 }

@@ -1,96 +1,80 @@
-// What an image must hold, byte by byte: the section of document 01 on the table of one head, read
-// of a history.
-use crate::history;
-use crate::sizes::order_width;
-use crate::words::{push, push_two};
+// What an image must hold, byte by byte, by the documents' rule on the table of one head, read of a history.
+use crate::history::{History, Meeting, Place};
+use crate::outcome::make_room;
+use crate::sizes::{LONGEST, order_width};
+use std::alloc::{AllocError, Global};
 
-// The name of a meeting of r: its other stall, and its label.
-fn push_name(history: &[u16], place: u16, r: u16, image: &mut [u8], at: usize) -> usize {
-    if place == 0 {
-        return push_two(image, at, 0);
-    }
-    let first = history::first_of(history, place);
-    let partner = if first == r {
-        history::second_of(history, place)
-    } else {
-        first
-    };
-    let next = push(image, at, partner);
-    push(image, next, history::label_of(history, place))
+// A yield in two bytes, ffff where the stall was not milked or never heard.
+pub fn yield_bytes(given: Option<u16>) -> [u8; 2] {
+    given.unwrap_or(0xffff).to_be_bytes()
 }
 
-// The newest of each stall in the past of a meeting.
-fn push_row(history: &[u16], n: u16, place: u16, image: &mut [u8], from: usize) -> usize {
-    let mut at = from;
-    let mut r = 0u16;
-    while r < n {
-        r += 1;
-        at = push_name(history, history::newest(history, place, r), r, image, at);
+// The name of a meeting of a stall: its other stall, and its label; zeros where there is none.
+fn name_bytes(history: &History, place: Option<Place>, stall: u8) -> [u8; 2] {
+    match history.meeting(place) {
+        Some(meeting) => [meeting.name.partner(stall), meeting.name.label],
+        None => [0, 0],
     }
-    at
+}
+
+// The order entry of r: a bit for each stall s, set where the head's latest of r lies in the past of
+// its latest of s.
+fn order_of(history: &History, head: u8, r: u8) -> u16 {
+    let of_r = history.latest(head, r);
+    (1..=history.stalls()).rev().fold(0u16, |order, s| {
+        order << 1 | u16::from(history.is_in_past(of_r, history.latest(head, s)))
+    })
+}
+
+// The newest of each stall in the past of a meeting, by name.
+fn push_row(
+    image: &mut Vec<u8>,
+    history: &History,
+    meeting: Option<&Meeting>,
+) -> Result<(), AllocError> {
+    for r in 1..=history.stalls() {
+        let newest = meeting.and_then(|meeting| meeting.newest(r));
+        image.extend_from_slice(&name_bytes(history, newest, r))?;
+    }
+    Ok(())
 }
 
 // Row s is that of the latest of s; a head's own row is that of its last meeting, its own latest.
-fn push_rows(history: &[u16], n: u16, head: u16, image: &mut [u8], from: usize) -> usize {
-    let mut at = from;
-    let mut s = 0u16;
-    while s < n {
-        s += 1;
-        at = push_row(history, n, history::latest(history, head, s), image, at);
+fn push_rows(image: &mut Vec<u8>, history: &History, head: u8) -> Result<(), AllocError> {
+    for s in 1..=history.stalls() {
+        push_row(image, history, history.meeting(history.latest(head, s)))?;
     }
-    at
+    Ok(())
 }
 
-fn push_yields(history: &[u16], n: u16, head: u16, image: &mut [u8], from: usize) -> usize {
-    let mut at = from;
-    let mut s = 0u16;
-    while s < n {
-        s += 1;
-        let place = history::latest(history, head, s);
-        at = push_two(image, at, history::yield_at(history, place, s));
+fn push_yields(image: &mut Vec<u8>, history: &History, head: u8) -> Result<(), AllocError> {
+    for s in 1..=history.stalls() {
+        let place = history.latest(head, s);
+        image.extend_from_slice(&yield_bytes(history.yield_at(place, s)))?;
     }
-    at
+    Ok(())
 }
 
-// The order entry of r, from the highest stall down: each turn doubles what the turns before gave.
-fn order_of(history: &[u16], n: u16, head: u16, r: u16) -> u16 {
-    let of_r = history::latest(history, head, r);
-    let mut order = 0u16;
-    let mut s = n;
-    while 0 < s {
-        order = order % 32768 * 2;
-        if history::is_in_past(history, of_r, history::latest(history, head, s)) {
-            order += 1;
+fn push_orders(image: &mut Vec<u8>, history: &History, head: u8) -> Result<(), AllocError> {
+    for r in 1..=history.stalls() {
+        let [high, low] = order_of(history, head, r).to_be_bytes();
+        if order_width(history.stalls()) == 2 {
+            image.push(high)?;
         }
-        s -= 1;
+        image.push(low)?;
     }
-    order
+    Ok(())
 }
 
-fn push_entry(image: &mut [u8], at: usize, n: u16, order: u16) -> usize {
-    if order_width(n) == 1 {
-        push(image, at, order)
-    } else {
-        push_two(image, at, order)
-    }
-}
-
-fn push_order(history: &[u16], n: u16, head: u16, image: &mut [u8], from: usize) -> usize {
-    let mut at = from;
-    let mut r = 0u16;
-    while r < n {
-        r += 1;
-        at = push_entry(image, at, n, order_of(history, n, head, r));
-    }
-    at
-}
-
-// The image that a list leaves with a head. Bytes past its length stay as they are.
-pub fn put_image(history: &[u16], n: u16, head: u16, image: &mut [u8]) {
-    let at = push(image, 0, n);
-    let at = push(image, at, head);
-    let at = push_two(image, at, history::current(history, head));
-    let at = push_rows(history, n, head, image, at);
-    let at = push_yields(history, n, head, image, at);
-    push_order(history, n, head, image, at);
+// The image that a list leaves with a head. Behind it stand unwritten bytes.
+pub fn image(alloc: Global, history: &History, head: u8) -> Result<Vec<u8>, AllocError> {
+    let mut image = Vec::with_capacity(alloc, LONGEST)?;
+    image.push(history.stalls())?;
+    image.push(head)?;
+    image.extend_from_slice(&yield_bytes(history.current(head)))?;
+    push_rows(&mut image, history, head)?;
+    push_yields(&mut image, history, head)?;
+    push_orders(&mut image, history, head)?;
+    make_room(&mut image, LONGEST)?;
+    Ok(image)
 }

@@ -1,5 +1,0 @@
-use Rattle.std.proofs.Common.{◌-◌}
-use Rattle.soak.proofs.compare.is_ambiguous.Given as goal
-
-abbrev pub decreases-loop-head : goal.decreases-loop-head
-decreases-loop-head l = l.n - l.head
