@@ -1,10 +1,11 @@
 -- Rows of records, filled from the front.
-use Prim.Native.Nat.{ℕ, zero, suc, ◌+◌, ◌≤◌, ◌<◌}
+use Prim.Native.Nat.{ℕ, zero, suc, ◌+◌, ◌-◌, ◌≤◌, ◌<◌}
 use mathlib.Core.Path.{◌≡◌, refl, sym, ap, ◌∙◌}
-use mathlib.Core.List.{List, []}
+use mathlib.Core.List.{List, [], ◌++◌}
 use native.Mathlib.Omega.{arith}
 use native.Mathlib.Decide.{ℕ_discrete, dec_lt}
-use lib.ListN.{length, get_or, set, length-append, length-set, get_or-append}
+use lib.ListN.{length, get_or, set, drop, replicate, length-append, length-set, get_or-append}
+use Rattle.std.proofs.lemmas.List.{get_or-append-add, get_or-drop, get_or-replicate, length-drop, length-replicate}
 use lib.Seq.{get_or_at, get_or-set_same, get_or-set_other, ext_get_or}
 use Rattle.image.specs.Row.{tabulate, never_at}
 use Rattle.image.specs.declared.Entry.{Entry}
@@ -49,3 +50,17 @@ filled_end {row} {c} {m} {f} w l e =
       | yes b ↦ w.filled k b ∙ sym (get_d_tabulate m f (never_at 0) k (omega (arith, w.long)))
       | no b ↦ w.rest k (omega arith) (omega (arith, w.long)) ∙ sym (e (suc k) (omega arith)) ∙ sym (get_d_tabulate m f (never_at 0) k (omega (arith, w.long)))
     ])
+
+-- the first n of m records, all filled, and none behind them
+pub filled_front : {items : List Entry} {c n : ℕ} {f : ℕ → Entry} (m : ℕ) → Filled items c n f → n ≤ c → n ≤ m → Filled (items ++ drop n (replicate m (never_at 0))) n m f
+filled_front {items} {n = n} m w l b =
+    record {
+      long = length-append items (drop n (replicate m (never_at 0))) ∙ omega (arith, w.long, length-drop n (replicate m (never_at 0)), length-replicate m (never_at 0));
+      filled = λ k a. get_or-append items (drop n (replicate m (never_at 0))) (never_at 0) k (omega (arith, w.long)) ∙ w.filled k (omega arith);
+      rest = λ k a b.
+          let e : k ≡ length items + (k - n) = omega (arith, w.long) in
+          ap (λ j. get_or (items ++ drop n (replicate m (never_at 0))) j (never_at 0)) e
+          ∙ get_or-append-add items (drop n (replicate m (never_at 0))) (k - n) (never_at 0)
+          ∙ get_or-drop n (replicate m (never_at 0)) (k - n) (never_at 0)
+          ∙ get_or-replicate m (n + (k - n)) (never_at 0) (never_at 0) (omega arith);
+    }

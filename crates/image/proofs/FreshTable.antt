@@ -11,7 +11,7 @@ use Rattle.image.specs.Fresh.{fresh_image, fresh_in}
 use Rattle.image.specs.Encode.{nothing, word_bytes, order_bytes, encode}
 use Rattle.image.proofs.Bits.{bits_none}
 use Rattle.image.proofs.YieldRange.{no_yield_bytes}
-use Rattle.image.proofs.Zeros.{zeros_parted, zeros_between, each_zeros}
+use Rattle.image.proofs.Zeros.{drop_zeros, zeros_parted, zeros_between, each_zeros}
 use Rattle.image.proofs.Places.{yields_from_lem}
 use Rattle.image.proofs.Encoding.{length_encode}
 use Rattle.image.proofs.OrderEntry.{length_is, order_zeros}
@@ -56,24 +56,33 @@ module _ (n own : ℕ) (n_from : 2 ≤ n) (n_to : n ≤ largest) where
       let e : length_of n - length_of n ≡ 0 = omega arith in
       fresh_in_lem (length_of n) (omega arith) ∙ ap (λ k. fresh_image n own ++ replicate k 0) e ∙ append-nil (fresh_image n own)
 
+-- at the front of more zeros
+pub fresh_front : (n own : ℕ) (zeros : List ℕ) → 2 ≤ n → n ≤ largest → length_of n ≤ length zeros → zeros ≡ replicate (length zeros) 0
+    → fresh_in (length_of n) n own ++ drop (length_of n) zeros ≡ fresh_in (length zeros) n own
+fresh_front n own zeros a b l e =
+    ap₂ ◌++◌ (fresh_alone n own a b) (ap (drop (length_of n)) e ∙ drop_zeros (length_of n) (length zeros)) ∙ sym (fresh_in_lem n own a b (length zeros) l)
+
 -- as it is written over zeros: N, the stall and the current yield, then the yields of m stalls in their place
-module _ (zeros begun : List ℕ) (n own m long at : ℕ)
-    (asked : (2 ≤ n) × (n ≤ largest) × (long ≡ length_of n) × (long ≤ length zeros) × (zeros ≡ replicate (length zeros) 0)) (m_is : m ≡ n)
-    (begun_is : begun ≡ take 2 (set (set zeros 0 n) 1 own) ++ each 1 no_yield_bytes ++ drop 4 (set (set zeros 0 n) 1 own)) (at_is : at ≡ yields_from long m) where
+module _ (zeros begun : List ℕ) (n own m at : ℕ)
+    (asked : (2 ≤ n) × (n ≤ largest) × (length zeros ≡ length_of n) × (zeros ≡ replicate (length zeros) 0)) (m_is : m ≡ n)
+    (begun_is : begun ≡ take 2 (set (set zeros 0 n) 1 own) ++ each 1 no_yield_bytes ++ drop 4 (set (set zeros 0 n) 1 own)) (at_is : at ≡ yields_from (length begun) m) where
   abbrev front : List ℕ
   front = n ∷ own ∷ word_bytes no_yield
 
-  whole : long ≡ image_length n
+  whole : length zeros ≡ image_length n
   whole = asked.2 ∙ length_is n asked.0 asked.1
 
   front_is : begun ≡ front ++ replicate (length zeros - 4) 0
   unfolding each
   front_is =
-      let e : length zeros ≡ suc (suc (suc (suc (length zeros - 4)))) = omega (arith, whole, asked.3) in
-      begun_is ∙ ap (λ z. take 2 (set (set z 0 n) 1 own) ++ word_bytes no_yield ++ drop 4 (set (set z 0 n) 1 own)) (asked.4 ∙ ap (λ j. replicate j 0) e)
+      let e : length zeros ≡ suc (suc (suc (suc (length zeros - 4)))) = omega (arith, whole) in
+      begun_is ∙ ap (λ z. take 2 (set (set z 0 n) 1 own) ++ word_bytes no_yield ++ drop 4 (set (set z 0 n) 1 own)) (asked.3 ∙ ap (λ j. replicate j 0) e)
+
+  begun_whole : length begun ≡ image_length n
+  begun_whole = ap length front_is ∙ length-append front (replicate (length zeros - 4) 0) ∙ omega (arith, whole, length-replicate {A = ℕ} (length zeros - 4) 0)
 
   place_is : at ≡ yields_place n
-  place_is = yields_from_lem whole m_is at_is
+  place_is = yields_from_lem begun_whole m_is at_is
 
   pub fresh_written : take at begun ++ each m no_yield_bytes ++ drop (at + m * 2) begun ≡ fresh_in (length zeros) n own
   fresh_written =
@@ -81,9 +90,9 @@ module _ (zeros begun : List ℕ) (n own m long at : ℕ)
       let rest = length zeros - length_of n in
       ap₂ (λ j k. take j begun ++ each k no_yield_bytes ++ drop (j + k * 2) begun) place_is m_is
       ∙ ap (λ l. take (yields_place n) l ++ each n no_yield_bytes ++ drop (yields_place n + n * 2) l) front_is
-      ∙ zeros_between front (each n no_yield_bytes) (length zeros - 4) rows (n * 2) (omega (arith, whole, asked.3))
-      ∙ zeros_parted (front ++ replicate rows 0 ++ each n no_yield_bytes) (length zeros - 4 - (rows + n * 2)) (n * order_width n) rest (omega (arith, whole, asked.2, asked.3))
+      ∙ zeros_between front (each n no_yield_bytes) (length zeros - 4) rows (n * 2) (omega (arith, whole))
+      ∙ zeros_parted (front ++ replicate rows 0 ++ each n no_yield_bytes) (length zeros - 4 - (rows + n * 2)) (n * order_width n) rest (omega (arith, whole, asked.2))
       ∙ ap (λ l. l ++ replicate rest 0) (sym (fresh_bytes n own))
-      ∙ sym (fresh_in_lem n own asked.0 asked.1 (length zeros) (omega (arith, asked.2, asked.3)))
+      ∙ sym (fresh_in_lem n own asked.0 asked.1 (length zeros) (omega (arith, asked.2)))
 
-pub ruleset written = (fresh_written)
+pub ruleset written = (fresh_written, fresh_front)

@@ -1,5 +1,6 @@
 -- The lemmas of `image`. What crates above cite is `pub mod`.
 pub mod Search
+pub mod Stopping
 pub mod Counts
 pub mod Bits
 pub mod Windows

@@ -47,6 +47,10 @@ some_next n f {x} {y} p q = let e : n + 1 ≡ suc n = omega arith in or_comm y x
 pub looked_as : {n width at place s : ℕ} {found said : Bool} {f : ℕ → Bool} → said ≡ found → Looked n width at place s found f → Looked n width at place s said f
 looked_as e w = record { from = w.from; to = w.to; stands = w.stands; so_far = e ∙ w.so_far }
 
+-- and its place too
+pub looked_on : {n width at s step : ℕ} (place : ℕ) {found : Bool} {f : ℕ → Bool} → step ≡ width → Looked n width at (place + width) s found f → Looked n width at (place + step) s found f
+looked_on place e w = record { from = w.from; to = w.to; stands = ap (λ k. place + k) e ∙ w.stands; so_far = w.so_far }
+
 -- the next one, told last
 pub looked_more : {n width at place s : ℕ} {found : Bool} {f : ℕ → Bool} → Looked n width at place s found f → s ≤ n → (t : Bool) → t ≡ f s
     → Looked n width at (place + width) (s + 1) (found || t) f

@@ -45,7 +45,8 @@ pub struct Entry {
     pub name: Name,
 }
 
-// What an image begins with.
+// What an image begins with. Not one type with Head below, which has the same two fields: the check answers this one, and docs/DECISIONS.md names
+// Head, by value.
 #[derive(Clone, Copy, Debug, PartialEq, Eq)]
 pub struct Header {
     pub n: u8,
@@ -97,7 +98,7 @@ pub enum Checked {
 // The image of a head whose N, stall and length are right, lent: its bytes, and the two of its numbers that all that reads it goes by. Functions
 // that only count, in words or places, take the numbers that they need: with `n ≤ largest` alone a type of its own would be no plainer, a field and
 // a literal more at each call. Functions that read bytes at a place take the slice: behind `&Image` its bytes have no bound.
-#[derive(Clone, Copy)]
+#[derive(Clone, Copy, Debug, PartialEq, Eq)]
 pub struct Image<'a> {
     pub bytes: &'a [u8],
     pub n: u8,
@@ -105,7 +106,7 @@ pub struct Image<'a> {
     pub ghost framed: { Framed bytes.now n own },
 }
 
-// The table of a head that has heard nobody: N and its stall say all of it.
+// The table of a head that has heard nobody: N and its stall say all of it. (Not a Header: see there.)
 #[derive(Clone, Copy, Debug, PartialEq, Eq)]
 pub struct Head {
     pub n: u8,
@@ -154,37 +155,33 @@ impl Head {
     }
 
     // Its image at the front of a run, then zeros; zeros alone where it has no room, or n is that of no parlour.
-    #[tactic(auto, using(crate::proofs::Zeros::cleared_all), unfolding(crate::specs::Fresh::fresh_in))]
+    #[tactic(auto, using(crate::proofs::Zeros::cleared_all, crate::proofs::FreshTable::written), unfolding(crate::specs::Fresh::fresh_in))]
     pub fn write(self, image: &mut [u8])
         ensures { image.new ≡ fresh_in (length image.old) self.n self.stall }
     {
         bytes::clear_from(image, 0);
-        let n = self.n;
-        if bytes::bad_count(n) {
-            return;
+        let long = length_of(usize::from(self.n));
+        if bytes::is_count(self.n) && long <= image.len() {
+            self.put(&mut image[..long]);
         }
-        let long = length_of(usize::from(n));
-        if image.len() < long {
-            return;
-        }
-        put_fresh(image, n, self.stall, long);
+    }
+
+    // Its image over as many zeros.
+    #[tactic(auto, using(crate::proofs::FreshTable::written))]
+    fn put(self, image: &mut [u8])
+        requires { (2 ≤ self.n) × (self.n ≤ largest) × (length image.old ≡ length_of self.n) × (image.old ≡ replicate (length image.old) 0) }
+        ensures { image.new ≡ fresh_in (length image.old) self.n self.stall }
+    {
+        let n = usize::from(self.n);
+        image[0] = self.n;
+        image[1] = self.stall;
+        yields::put_no_yields(image, 2, 1);
+        yields::put_no_yields(image, bytes::yields_place(image.len(), n), n);
     }
 }
 
-// A fresh image, which is so long, over zeros.
-#[tactic(auto, using(crate::proofs::FreshTable::written))]
-fn put_fresh(image: &mut [u8], n: u8, stall: u8, long: usize)
-    requires { (2 ≤ n) × (n ≤ largest) × (long ≡ length_of n) × (long ≤ length image.old) × (image.old ≡ replicate (length image.old) 0) }
-    ensures { image.new ≡ fresh_in (length image.old) n stall }
-{
-    let m = usize::from(n);
-    image[0] = n;
-    image[1] = stall;
-    yields::put_no_yields(image, 2, 1);
-    yields::put_no_yields(image, bytes::yields_place(long, m), m);
-}
-
-// The length of an image of n stalls, 0 where n is that of no parlour.
+// The length of an image of n stalls, 0 where n is that of no parlour: not an Option, since `length_of` of specs/ is a number, and callers compare it.
+// By an index: the check calls it, and firmware/products follows no `get`.
 #[tactic(auto, using(crate::proofs::Lengths::rule))]
 pub fn length_of(n: usize) -> usize
     ensures { result ≡ length_of n }
@@ -196,7 +193,7 @@ pub fn length_of(n: usize) -> usize
     }
 }
 
-// Two bytes as a name.
+// Two bytes as a name. A function, and no From: contracts of other crates are over the definition of its name.
 #[tactic(auto, unfolding(crate::specs::Layout::name_from))]
 pub fn name_from(partner: u8, label: u8) -> Name
     ensures { result ≡ name_from partner label }
@@ -213,10 +210,9 @@ pub fn name_from(partner: u8, label: u8) -> Name
 pub fn check(image: &[u8]) -> Checked
     ensures { result ≡ checked image.now }
 {
-    if image.len() == 0 {
+    let &[n, ..] = image else {
         return Checked::Refused(Refusal::Count.number());
-    }
-    let n = image[0];
+    };
     if bytes::bad_count(n) {
         return Checked::Refused(Refusal::Count.number());
     }
@@ -243,9 +239,8 @@ fn check_body(image: &[u8], n: u8, own: u8) -> Checked
         n,
         own,
     };
-    let ownrow = bytes::row_start(usize::from(n), usize::from(own));
-    let latests = names::own_names(&x, ownrow);
-    if names::bad_names(&x, ownrow, latests) {
+    let latests = names::own_names(&x);
+    if names::bad_names(&x, latests) {
         return Checked::Refused(Refusal::Name.number());
     }
     if marks::bad_marks(&x, latests.set) {
@@ -254,7 +249,9 @@ fn check_body(image: &[u8], n: u8, own: u8) -> Checked
     Checked::Good(Header { n, stall: own })
 }
 
-// The number of an answer: 0 for a good image. A function, as docs/ name it.
+// The number of an answer: 0 for a good image. A function, since exports of three crates answer by it, and their contracts are over the definition
+// of its name. Calls that answer 256 and more for a refusal add it where they take the check apart: a sum, and a function for it would be a public
+// one more.
 pub fn number_of(c: Checked) -> u32
     ensures { result ≡ number_of c }
 {

@@ -6,13 +6,14 @@ ghost use Rattle.image.specs.Layout.{largest, heard_at};
 ghost use Rattle.image.specs.Check.{bad_marks};
 
 use crate::Image;
+use crate::bytes::either;
 use crate::orders::{order_width, orders_place, whole_order};
 
 // x, or nothing.
 pub fn pick(b: bool, x: u64) -> u64
     ensures { (result ≡ cond b x 0) × (result ≤ x) }
 {
-    if b { x } else { 0 }
+    either(b, x, 0)
 }
 
 // The bit of a stall.
@@ -20,21 +21,15 @@ pub fn pick(b: bool, x: u64) -> u64
 pub fn bit_of(s: u8) -> u64
     ensures { result ≡ bit_of s }
 {
-    if s < 1 {
-        return 0;
-    }
-    if 64 < s {
-        return 0;
-    }
-    1u64 << (s - 1)
+    if s < 1 || s > 64 { 0 } else { 1u64 << (s - 1) }
 }
 
-// A set of stalls has all of 1 to n.
-pub(crate) fn has_all(set: u64, n: usize) -> bool
-    requires { n ≤ largest }
-    ensures { result ≡ eqb set (2 ^ n - 1) }
+// A set of stalls has all of 1 to n. No function makes that set for merge, head and this crate: a public one has no requires, a rule of the project,
+// and without one n above 63 wants an answer of its own.
+pub(crate) fn has_all(x: &Image<'_>, set: u64) -> bool
+    ensures { result ≡ eqb set (2 ^ x.now.n - 1) }
 {
-    set == (1u64 << n) - 1
+    set == (1u64 << x.n) - 1
 }
 
 // Bits where the order entry of a stall is bad, by the stall's bit, that of the own stall, and the set of heard stalls: nothing is lost by the set, nor gained by the two bits.
@@ -51,15 +46,14 @@ fn bad_order(order: u64, set: u64, one: u64, mine: u64) -> u64
 }
 
 // Check 6, by the set of heard stalls: no mark but of a heard stall to a heard one, and of each of these to itself and to the own stall. The place
-// and the bit go on with the loop, as all places do in the check, which does not multiply. An iterator over order entries would be no plainer: it has
-// four ghost members, in place of two sums a turn.
+// and the bit go on with the loop, as all places do in the check, which does not multiply (firmware/products). An iterator over order entries would be
+// no plainer: it has four ghost members, in place of two sums a turn.
 pub(crate) fn bad_marks(x: &Image<'_>, set: u64) -> bool
     requires { set ≡ bits x.now.n (heard_at x.now.bytes.now x.now.n x.now.own) }
     ensures { result ≡ bad_marks x.now.bytes.now x.now.n x.now.own }
 {
     let image = x.bytes;
-    // By a cast, here and in names.rt: From is a call with a result of its own, of which the invariant of a loop says nothing.
-    let n = x.n as usize;
+    let n = usize::from(x.n);
     let mine = 1u64 << (x.own - 1);
     let width = order_width(n);
     let mut bad = 0u64;

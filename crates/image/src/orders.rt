@@ -4,6 +4,8 @@ ghost use Rattle.std.proofs.lemmas.List.Edits.{sets};
 ghost use Rattle.image.specs.Layout.{largest, order_from, order_width, orders_from};
 ghost use Rattle.image.specs.Encode.{order_bytes};
 
+use crate::bytes::word_at;
+
 // The bytes of an order entry in an image of n stalls.
 #[tactic(auto, unfolding(crate::specs::Layout::order_width))]
 pub fn order_width(n: usize) -> usize
@@ -17,10 +19,12 @@ pub fn order_width(n: usize) -> usize
 pub fn orders_place(length: usize, n: usize) -> usize
     ensures { result ≡ orders_from length n }
 {
+    let place = length.saturating_sub(n);
     if order_width(n) == 1 {
-        return length.saturating_sub(n);
+        place
+    } else {
+        place.saturating_sub(n)
     }
-    length.saturating_sub(n).saturating_sub(n)
 }
 
 // The order entry at a place where all its bytes stand.
@@ -30,9 +34,10 @@ pub(crate) fn whole_order(image: &[u8], n: usize, at: usize) -> u64
     ensures { (result ≡ order_from image.now n at) × (result < 2 ^ largest) }
 {
     if order_width(n) == 1 {
-        return u64::from(image[at]);
+        u64::from(image[at])
+    } else {
+        u64::from(word_at(image, at))
     }
-    u64::from(u16::from_be_bytes([image[at], image[at + 1]]))
 }
 
 // The order entry at a place as a number; past the end of the image there are zeros.
@@ -41,12 +46,12 @@ pub fn order_at(image: &[u8], n: usize, at: usize) -> u64
     ensures { (result ≡ order_from image.now n at) × (result < 2 ^ largest) }
 {
     if image.len() <= at {
-        return 0;
+        0
+    } else if image.len() - at < order_width(n) {
+        u64::from(u16::from_be_bytes([image[at], 0]))
+    } else {
+        whole_order(image, n, at)
     }
-    if image.len() - at < order_width(n) {
-        return u64::from(image[at]) * 256;
-    }
-    whole_order(image, n, at)
 }
 
 // An order entry written at a place, as far as it has room there and in its bytes.

@@ -6,25 +6,26 @@ ghost use Rattle.image.specs.Row.{is_never, tabulate, entry_at, own_row};
 use crate::bytes::row_place;
 use crate::{Entry, Name, STALLS, name_from};
 
-// A name is none. A function, as number_of and name_from, which docs/ name.
+// The row of a head that knows of no meeting, and what stands behind the last stall of a row.
+const NOBODY: [Entry; STALLS] = [Entry { name: Name::Never }; STALLS];
+
+// A name is none. A function, since contracts of other crates are over the definition of its name, and docs/ name it.
 pub fn is_never(name: Name) -> bool
     ensures { result ≡ is_never name }
 {
-    match name {
-        Name::Never => true,
-        Name::With(_) => false,
-    }
+    name == Name::Never
 }
 
-// The row that starts at a place.
+// The row that starts at a place. The image by an index: tried with a zip of the entries and chunks_exact(2), what the row holds in the end stayed open.
 fn row_at(image: &[u8], n: usize, at: usize) -> [Entry; STALLS]
     requires { (n ≤ largest) × (at + n * 2 ≤ length image.now) }
     ensures { result ≡ tabulate largest (entry_at image.now n at) }
 {
-    let mut row = [Entry { name: Name::Never }; STALLS];
-    for c in 0..n {
-        row[c] = Entry {
-            name: name_from(image[at + 2 * c], image[at + 2 * c + 1]),
+    let mut row = NOBODY;
+    for (c, entry) in row[..n].iter_mut().enumerate() {
+        let place = at + 2 * c;
+        *entry = Entry {
+            name: name_from(image[place], image[place + 1]),
         };
     }
     row
@@ -37,11 +38,9 @@ pub fn own_row(image: &[u8], n: u8, own: u8) -> [Entry; STALLS]
 {
     let m = usize::from(n);
     let at = row_place(n, own);
-    if STALLS < m {
-        return [Entry { name: Name::Never }; STALLS];
+    if STALLS < m || image.len() < at + 2 * m {
+        NOBODY
+    } else {
+        row_at(image, m, at)
     }
-    if image.len() < at + m * 2 {
-        return [Entry { name: Name::Never }; STALLS];
-    }
-    row_at(image, m, at)
 }

@@ -15,7 +15,7 @@ pub(crate) const SIXTEENTHS: u64 = 0x8000800080008000;
 
 pub(crate) const FOUR_ONES: u64 = 0x0001000100010001;
 
-// The eight bytes from a place on.
+// The eight bytes from a place on, listed: see word_at in bytes.rt.
 fn eight_bytes(image: &[u8], at: usize) -> [u8; 8]
     requires { at + 8 ≤ length image.now }
     ensures { result
@@ -64,9 +64,10 @@ pub(crate) fn first_lanes(count: usize) -> u64
     ensures { result ≡ 2 ^ (16 * min count 4) - 1 }
 {
     if count < 4 {
-        return (1u64 << (16 * count)) - 1;
+        (1u64 << (16 * count)) - 1
+    } else {
+        u64::MAX
     }
-    u64::MAX
 }
 
 // A number in each of four lanes.

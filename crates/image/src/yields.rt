@@ -12,7 +12,7 @@ use crate::bytes::word_at;
 use crate::orders::orders_place;
 use crate::words::{FIFTEENS, FOUR_ONES, SIXTEENTHS, first_lanes, four_numbers};
 
-// The number for not milked.
+// The number for not milked. Of a usize, since it is public; its callers have two bytes.
 #[tactic(auto, unfolding(crate::specs::Layout::no_yield))]
 pub fn is_not_milked(x: usize) -> bool
     ensures { result ≡ eqb x no_yield }
@@ -22,10 +22,10 @@ pub fn is_not_milked(x: usize) -> bool
 
 // A number that a yield in an image may be.
 #[tactic(auto, unfolding(crate::specs::Layout::is_yield))]
-fn is_yield(x: usize) -> bool
+fn is_yield(x: u16) -> bool
     ensures { result ≡ is_yield x }
 {
-    (x <= usize::from(Head::YIELD_LIMIT)) | is_not_milked(x)
+    (x <= Head::YIELD_LIMIT) | is_not_milked(usize::from(x))
 }
 
 // What takes the lower fifteen bits of a number to the sixteenth where they are over the limit; and, where that is set already, where the
@@ -47,7 +47,7 @@ fn bad_four(w: u64) -> bool
 
 // Some of so many numbers from a place on, and of those behind them to a whole four, is none that a yield may be. Counted by hand: with
 // `for seen in (0..count).step_by(4)`, which proves too, the check of two to eight heads takes 1.04 to 1.08 of the time of the older code, as it stands
-// 0.99 to 1.05.
+// 0.99 to 1.05, and 1.05 is the most that a call may take. No chunks_exact(8): firmware/products, which follows what the check calls, refuses it.
 fn bad_fours(image: &[u8], at: usize, count: usize) -> bool
     requires { (count ≤ largest) × (at + count * 2 + 6 ≤ length image.now) }
     ensures { result ≡ some (fours count) (λ s. not (is_yield (word image.now (at + (s - 1) * 2)))) }
@@ -56,7 +56,7 @@ fn bad_fours(image: &[u8], at: usize, count: usize) -> bool
     let mut place = at;
     let mut seen = 0usize;
     while seen < count {
-        bad = bad_four(four_numbers(image, place)) | bad;
+        bad |= bad_four(four_numbers(image, place));
         place += 8;
         seen += 4;
     }
@@ -85,7 +85,8 @@ pub(crate) fn bad_yields(image: &[u8], n: usize) -> bool
     !is_yield(word_at(image, 2)) | some_bad_yield(image, n, orders_place(image.len(), n))
 }
 
-// So many yields from a place on become those of heads that were not milked.
+// So many yields from a place on become those of heads that were not milked. By an index: tried with chunks_exact_mut(2), what the run holds in the
+// end stayed open, since std promises of what is written through its chunks the length alone.
 pub(crate) fn put_no_yields(image: &mut [u8], at: usize, count: usize)
     requires { at + count * 2 ≤ length image.old }
     ensures { image.new ≡ take at image.old ++ each count (λ s. word_bytes no_yield) ++ drop (at + count * 2) image.old }

@@ -8,4 +8,4 @@ use Rattle.image.proofs.marks.bad_marks.Given as goal
 
 abbrev pub invariant-loop : goal.invariant-loop
 invariant-loop l =
-    Looked l.n (order_width l.n) (orders_place l.n) l.at (l.counter + 1) (not (eqb l.bad 0)) (bad_order l.x.bytes.now l.n l.x.own) × Bit l.one (l.counter + 1)
+    Looked l.x.n (order_width l.x.n) (orders_place l.x.n) l.at (l.counter + 1) (not (eqb l.bad 0)) (bad_order l.x.bytes.now l.x.n l.x.own) × Bit l.one (l.counter + 1)

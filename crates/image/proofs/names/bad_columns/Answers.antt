@@ -27,12 +27,10 @@ bad_in_row-bad-requires g c =
     let k = g.row.C in
     let x = c.args.x.now in
     let e : 0 + k ≡ k = omega arith in (
-      x.framed.n_from,
-      x.framed.n_to,
-      c.requires.0,
-      row_room x.bytes.now x.n c.loop.counter c.loop.invariant.1 (sized x.framed) c.loop-test.true,
+      omega (arith, c.requires.1, x.framed.n_from),
+      omega (arith, c.requires.0, c.requires.1),
+      rw c.requires.1 (row_room x.bytes.now x.n c.loop.counter c.loop.invariant.1 (sized x.framed) (omega (arith, c.loop-test.true, c.from-n.ensures))),
       ap (λ x. x + 0x0001000100010001 * k) first_columns ∙ columns_on 0 k ∙ ap columns_from e,
-      c.requires.1,
     )
 
 pub loop-preserved : goal.loop-preserved
@@ -41,8 +39,8 @@ loop-preserved g c =
     let l = c.loop in
     let i = l.invariant in (
       c.if-bad-ne0.false,
-      omega (arith, i.1),
-      sym (some_next l.counter (bad_behind x.bytes.now x.n g.row.C) (row_names x.bytes.now x.n l.counter i.1 g.row.C (min (x.n - g.row.C) 8) c.bad_in_row-bad.ensures) (sym i.2))
+      omega (arith, i.1, ap (λ k. (l.counter + 1) * (k + k)) c.from-n.ensures, c.from-n.ensures),
+      sym (some_next l.counter (bad_behind x.bytes.now x.n g.row.C) (row_names x.bytes.now x.n l.counter i.1 g.row.C (min (x.n - g.row.C) 8) (rw c.requires.1 at c.bad_in_row-bad.ensures)) (sym i.2))
           ∙ ap (λ b. not (eqb b 0)) c.if-bad-ne0.false,
     )
 
@@ -52,5 +50,5 @@ returns-then-bad-ne0 g c =
     let l = c.loop in
     let found : not (eqb c.bad_in_row-bad.result 0) ≡ true = ap not (ne_eqb c.bad_in_row-bad.result 0 c.if-bad-ne0.true) in
     found
-    ∙ sym (some_true x.n (bad_behind x.bytes.now x.n g.row.C) (l.counter + 1) (omega arith) (omega (arith, c.loop-test.true))
-    (sym (row_names x.bytes.now x.n l.counter l.invariant.1 g.row.C (min (x.n - g.row.C) 8) c.bad_in_row-bad.ensures) ∙ found))
+    ∙ sym (some_true x.n (bad_behind x.bytes.now x.n g.row.C) (l.counter + 1) (omega arith) (omega (arith, c.loop-test.true, c.from-n.ensures))
+    (sym (row_names x.bytes.now x.n l.counter l.invariant.1 g.row.C (min (x.n - g.row.C) 8) (rw c.requires.1 at c.bad_in_row-bad.ensures)) ∙ found))

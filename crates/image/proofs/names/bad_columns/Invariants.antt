@@ -6,4 +6,4 @@ use Rattle.image.proofs.names.bad_columns.Given as goal
 
 abbrev pub invariant-loop : goal.invariant-loop
 invariant-loop g l =
-    (l.bad ≡ 0) × (l.at ≡ 4 + l.counter * (l.n + l.n)) × (some l.counter (λ r. some (min (l.n - g.row.C) 8) (λ j. bad_at l.x.bytes.now l.n r (g.row.C + j))) ≡ false)
+    (l.bad ≡ 0) × (l.at ≡ 4 + l.counter * (l.x.n + l.x.n)) × (some l.counter (λ r. some (min (l.x.n - g.row.C) 8) (λ j. bad_at l.x.bytes.now l.x.n r (g.row.C + j))) ≡ false)

@@ -8,9 +8,11 @@ use Rattle.image.proofs.names.bad_four.Goals as goal
 pub overflow_add-over : goal.overflow_add-over
 overflow_add-over c =
     let a = c.args in
-    omega (arith, c.requires.2, over_in a.w a.n (label_limit a.n) a.columns (omega arith) (omega arith) (omega (arith, limit_bits a.n c.requires.0)) c.requires.1)
+    let l = a.limits in
+    omega (arith, l.word_is, over_in a.w l.n (label_limit l.n) a.columns (omega arith) (omega (arith, l.small)) (omega (arith, limit_bits l.n l.small)) c.requires)
 
 pub returns : goal.returns
 returns c =
     let a = c.args in
-    rw c.requires.2 (four_test a.w a.n (label_limit a.n) a.columns (omega arith) (omega arith) (omega (arith, limit_bits a.n c.requires.0)) c.requires.1)
+    let l = a.limits in
+    rw l.word_is (four_test a.w l.n (label_limit l.n) a.columns (omega arith) (omega (arith, l.small)) (omega (arith, limit_bits l.n l.small)) c.requires)

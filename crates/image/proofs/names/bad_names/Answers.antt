@@ -47,7 +47,7 @@ module _ (s : List ℕ) (n own : ℕ) where
 pub returns-then-has_all : goal.returns-then-has_all
 returns-then-has_all c =
     let a = c.args in
-    let own = c.requires.1 in
+    let own = c.requires in
     let rows = c.bad_rows in
     all_heard a.x.now.bytes.now a.x.now.n a.x.now.own (found a.x.now.bytes.now a.x.now.n a.x.now.own rows.result a.names.bad rows.ensures own.0)
     (sym (all_is a.x.now.bytes.now a.x.now.n a.x.now.own own.1 c.has_all.ensures) ∙ c.if-has_all.true)
@@ -55,4 +55,4 @@ returns-then-has_all c =
 pub returns : goal.returns
 returns c =
     let a = c.args in
-    both a.x.now.bytes.now a.x.now.n a.x.now.own (found a.x.now.bytes.now a.x.now.n a.x.now.own c.bad_rows.result a.names.bad c.bad_rows.ensures c.requires.1.0) c.bad_unheards.ensures
+    both a.x.now.bytes.now a.x.now.n a.x.now.own (found a.x.now.bytes.now a.x.now.n a.x.now.own c.bad_rows.result a.names.bad c.bad_rows.ensures c.requires.0) c.bad_unheards.ensures

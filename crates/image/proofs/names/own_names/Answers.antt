@@ -7,7 +7,7 @@ use borrow.Author.Tests.{eq-eqb, ne_eqb}
 use lib.Bits.{bit_xor}
 use Rattle.image.specs.Layout.{largest, row_place, partner_at, label_at, heard_at}
 use Rattle.image.specs.Check.{bad_diagonal}
-use Rattle.image.proofs.Search.{looked_start, looked_more, looked_as}
+use Rattle.image.proofs.Search.{looked_start, looked_more, looked_as, looked_on}
 use Rattle.image.proofs.Gather.{bit_start, bit_next, bit_le, gather_start, gather_next, gathered_lt}
 use Rattle.image.proofs.Lanes.{or_test, xor_differ}
 use Rattle.image.proofs.names.own_names.Goals as goal
@@ -40,13 +40,13 @@ here_is : (n r here : ℕ) → here ≡ 4 + (r - 1) * (n + n + 2) → here ≡ r
 here_is n r here e = omega (arith, mul-add (r - 1) (n + n) 2)
 
 pub loop-init : goal.loop-init
-loop-init c = (looked_start _, omega arith, bit_start, gather_start _)
+loop-init c = (looked_start _, omega (arith, c.row_start-there.ensures), bit_start, gather_start _)
 
 pub overflow_add-set : goal.overflow_add-set
 overflow_add-set c =
     let i = c.loop.invariant in
     let p = c.args.x.now.framed in
-    omega (arith, gathered_lt i.3 i.2, bit_le largest i.2 (omega (arith, c.loop-test.true, p.n_to)), c.pick-set.ensures)
+    omega (arith, gathered_lt i.3 i.2, bit_le largest i.2 (omega (arith, c.loop-test.true, c.from-n.ensures, p.n_to)), c.pick-set.ensures)
 
 pub loop-preserved : goal.loop-preserved
 loop-preserved c =
@@ -57,11 +57,12 @@ loop-preserved c =
     let x = c.two_at.result in
     let y = c.two_at-in-loop.result in
     let k : l.counter ≡ l.counter + 1 - 1 = omega arith in
-    let there = i.1 ∙ ap₂ (λ x y. x + y * 2) c.requires k in (
+    let there = i.1 ∙ ap (λ y. row_place a.x.now.n a.x.now.own + y * 2) k in (
       looked_as (or_test l.bad (bit_xor x y))
-          (looked_more i.0 (omega (arith, c.loop-test.true)) (not (eqb (bit_xor x y) 0))
+          (looked_on l.here (omega (arith, c.from-n.ensures))
+          (looked_more i.0 (omega (arith, c.loop-test.true, c.from-n.ensures)) (not (eqb (bit_xor x y) 0))
           (name_test s a.x.now.n a.x.now.own (l.counter + 1) l.here l.there x y c.two_at.ensures.1 c.two_at-in-loop.ensures.1
-          (here_is a.x.now.n (l.counter + 1) l.here i.0.stands) there c.two_at.ensures.0 c.two_at-in-loop.ensures.0)),
+          (here_is a.x.now.n (l.counter + 1) l.here i.0.stands) there c.two_at.ensures.0 c.two_at-in-loop.ensures.0))),
       omega (arith, i.1),
       bit_next i.2,
       gather_next i.3 i.2 (not (eqb (get_or s l.there 0) 0)) c.pick-set.ensures.0 (heard_test s a.x.now.n a.x.now.own (l.counter + 1) l.there there),

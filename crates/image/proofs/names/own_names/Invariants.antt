@@ -1,6 +1,6 @@
 -- The own row against the name of each row's own stall: the place in row r, a row and a name further each time.
 use Rattle.std.proofs.Common.{◌≡◌, ◌+◌, ◌*◌, not, eqb}
-use Rattle.image.specs.Layout.{heard_at}
+use Rattle.image.specs.Layout.{heard_at, row_place}
 use Rattle.image.specs.Check.{bad_diagonal}
 use Rattle.image.proofs.Search.{Looked}
 use Rattle.image.proofs.Gather.{Bit, Gathered}
@@ -8,7 +8,7 @@ use Rattle.image.proofs.names.own_names.Given as goal
 
 abbrev pub invariant-loop : goal.invariant-loop
 invariant-loop l =
-    Looked l.n (l.n + l.n + 2) 4 l.here (l.counter + 1) (not (eqb l.bad 0)) (bad_diagonal l.x.bytes.now l.n l.x.own)
-    × (l.there ≡ l.ownrow + l.counter * 2)
+    Looked l.x.n (l.x.n + l.x.n + 2) 4 l.here (l.counter + 1) (not (eqb l.bad 0)) (bad_diagonal l.x.bytes.now l.x.n l.x.own)
+    × (l.there ≡ row_place l.x.n l.x.own + l.counter * 2)
     × Bit l.one (l.counter + 1)
-    × Gathered (l.counter + 1) l.set (heard_at l.x.bytes.now l.n l.x.own)
+    × Gathered (l.counter + 1) l.set (heard_at l.x.bytes.now l.x.n l.x.own)

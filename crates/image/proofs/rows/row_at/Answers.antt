@@ -1,11 +1,11 @@
 -- One record more.
 use Rattle.std.proofs.Common.{ℕ, suc, ◌≡◌, ◌+◌, ◌-◌, ◌*◌, ◌<◌, List, get_or, arith}
 use borrow.Author.Tests.{le-leb, lt-leb}
-use Rattle.image.specs.Layout.{name_from}
+use Rattle.image.specs.Layout.{largest, name_from}
 use Rattle.image.specs.Row.{never_at, entry_at}
 use Rattle.image.specs.declared.Name.{Name}
 use Rattle.image.specs.declared.Entry.{Entry}
-use Rattle.image.proofs.Fill.{filled_next, filled_end}
+use Rattle.image.proofs.Fill.{filled_next, filled_front, filled_end}
 use Rattle.image.proofs.rows.row_at.Goals as goal
 
 -- the record of column c + 1
@@ -25,10 +25,12 @@ pub loop-c-preserved : goal.loop-c-preserved
 loop-c-preserved c =
     let a = c.args in
     let l = c.loop-c in
-    filled_next (record { name = c.name_from.result }) l.invariant (omega arith)
-    (entry_next a.image.now a.n a.at l.c (a.at + 2 * l.c) _ c.loop-c-test.true (omega arith) c.name_from.ensures)
+    let on : l.c < a.n = omega (arith, l.invariant.long, l.auto.c-end, c.loop-c-test.true) in
+    filled_next (record { name = c.name_from.result }) l.invariant on
+    (entry_next a.image.now a.n a.at l.c (a.at + 2 * l.c) _ on (omega arith) c.name_from.ensures)
 
 pub returns : goal.returns
 returns c =
     let a = c.args in
-    filled_end c.loop-c.invariant (omega arith) (λ k l. entry_past a.image.now a.n a.at k (omega arith))
+    let l = c.loop-c in
+    filled_end (filled_front largest l.invariant (omega (arith, l.invariant.long, l.auto.c-end, c.loop-c-test.false)) (omega arith)) (omega arith) (λ k l. entry_past a.image.now a.n a.at k l)

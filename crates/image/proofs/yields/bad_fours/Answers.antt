@@ -1,5 +1,6 @@
 -- Four numbers more.
-use Rattle.std.proofs.Common.{refl, arith}
+use Rattle.std.proofs.Common.{refl, ◌∙◌, arith}
+use Rattle.std.proofs.Math.Bool.{or_comm}
 use Rattle.image.specs.Stalls.{some}
 use Rattle.image.proofs.YieldLanes.{fours_next}
 use Rattle.image.proofs.yields.bad_fours.Goals as goal
@@ -15,6 +16,6 @@ loop-seen-preserved c =
       omega arith,
       omega arith,
       omega arith,
-      fours_next a.image.now (λ k. omega (arith, c.type_inv.image k)) a.at l.seen l.place l.invariant.2
+      or_comm l.bad c.bad_four-bad.result ∙ fours_next a.image.now (λ k. omega (arith, c.type_inv.image k)) a.at l.seen l.place l.invariant.2
           c.four_numbers.ensures c.bad_four-bad.ensures l.invariant.3,
     )
