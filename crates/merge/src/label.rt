@@ -10,11 +10,11 @@ use crate::Both;
 use image::Image;
 use image::marks::{bit_of, pick};
 
-// The lowest label that a set has not; 64 where it has all.
+// The lowest label that a set has not; 64 where it has all: no Option, as lowest_from (specs) is this number.
 fn lowest_free(set: u64) -> u32
     ensures { result ≡ lowest_from 64 0 (has_label set) }
 {
-    u64::trailing_zeros(!set)
+    (!set).trailing_zeros()
 }
 
 // The label of a name as a set, if the name is the meeting with this stall.
@@ -23,12 +23,13 @@ fn label_of(partner: u8, label: u8, stall: u8) -> u64
     ensures { result ≡ label_set (λ k. is_meeting stall k (name_from partner label)) }
 {
     if 63 < label {
-        return 0;
+        0
+    } else {
+        pick(partner == stall, bit_of(label + 1))
     }
-    pick(partner == stall, bit_of(label + 1))
 }
 
-// The labels of the names of the pair p, q in the row that starts at a place.
+// The labels of the names of the pair p, q in the row that starts at a place. p and q are two loose stalls, here and in `used_labels`: a struct of them for two functions would have the four bounds of the second as fields.
 fn row_labels(image: &[u8], row: usize, p: u8, q: u8) -> u64
     requires { Column image.now row p × Column image.now row q }
     ensures { result ≡ label_set (λ k. name_has image.now row p q k || name_has image.now row q p k) }
@@ -38,7 +39,7 @@ fn row_labels(image: &[u8], row: usize, p: u8, q: u8) -> u64
     label_of(image[left], image[left + 1], q) | label_of(image[right], image[right + 1], p)
 }
 
-// The labels of the names of the pair p, q in an image.
+// The labels of the names of the pair p, q in an image. The rows are found by their places, here, in rows.rt and in write.rt, since specs/ say names by their places in the image (name_has, body_row), and a chunk of it has none. That they go along with the loop: see marked (known.rt).
 fn used_labels(x: &Image<'_>, p: u8, q: u8) -> u64
     requires { (1 ≤ p) × (p ≤ x.now.n) × (1 ≤ q) × (q ≤ x.now.n) }
     ensures { result ≡ label_set (λ k. some x.now.n (row_has p q (table_of x.now.bytes.now x.now.n) k)) }

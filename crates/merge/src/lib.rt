@@ -16,7 +16,7 @@ pub mod write;
 pub mod yields;
 
 // Two heads of one parlour that meet, as what is read.
-#[derive(Clone, Copy)]
+#[derive(Clone, Copy, Debug, PartialEq, Eq)]
 pub struct Both<'a> {
     pub first: Image<'a>,
     pub second: Image<'a>,
@@ -31,7 +31,7 @@ pub struct Seen {
     pub same: bool,
 }
 
-// All columns of an own row, as sets of stalls.
+// All columns of an own row, as sets of stalls. `Seen` and this are two types: `Views` (specs) is said of this one, and for the other see `view` (known.rt).
 #[derive(Clone, Copy, Debug, PartialEq, Eq)]
 pub struct View {
     pub common: u64,

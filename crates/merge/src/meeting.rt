@@ -18,7 +18,7 @@ use crate::yields::merged_yields;
 use crate::{Both, Decided};
 use image::{Checked, Header, Image, Refusal};
 
-// Two images of one parlour, with these headers, as what is read.
+// Two images of one parlour, with these headers, as what is read. Here and not at `Image`, which other crates make too: a constructor for them all would be a public function with a `requires`, and no public function of the library has one.
 fn both_of<'a>(first: &'a [u8], second: &'a [u8], h: Header, g: Header) -> Both<'a>
     requires { Framed first.now h.n h.stall × Framed second.now g.n g.stall × (h.n ≡ g.n) }
     ensures { (result.first.bytes.now ≡ first.now)
@@ -48,12 +48,12 @@ fn verdict_byte(one: bool, two: bool) -> u8
     ensures { result ≡ cond one 1 (cond two 2 0) }
 {
     if one {
-        return 1;
+        1
+    } else if two {
+        2
+    } else {
+        0
     }
-    if two {
-        return 2;
-    }
-    0
 }
 
 // The verdicts into a buffer.
@@ -67,6 +67,7 @@ fn write_verdicts(buffer: &mut [u8], d: Decided)
 }
 
 // The meeting of two accepted images of n heads with different stalls, and a buffer of n bytes. All of the images is read, through views, before a byte of them is written.
+// It answers a number, since `met_together` (specs) does: of a Result the equation would need one definition more, which makes that number.
 // The verdicts are written before the rows are made: written after them, the stack frame was 1,448 bytes in place of 952.
 fn meet(first: &mut [u8], second: &mut [u8], h: Header, g: Header, buffer: &mut [u8]) -> u32
     requires accepted { (checked first.old ≡ Good h) × (checked second.old ≡ Good g) × (h.n ≡ g.n) }
@@ -90,7 +91,7 @@ fn meet(first: &mut [u8], second: &mut [u8], h: Header, g: Header, buffer: &mut 
     u32::from(k)
 }
 
-// The label of a meeting, or 256 plus the number of its refusal: a number for both, since C firmware links it.
+// The label of a meeting, or 256 plus the number of its refusal: a number for both, as docs/DECISIONS.md and `meeting_call` (specs) have it; `head` exports it as it is.
 // A refused check is taken apart by `let .. else` and its number handed on, not by `?`: the scope document names the form.
 #[tactic(auto, using(image::proofs::Stages::number_le), unfolding(crate::specs::Call::meeting_call, crate::specs::Call::met_checked, crate::specs::Call::met_good))]
 pub fn meeting(first: &mut [u8], second: &mut [u8], buffer: &mut [u8]) -> u32
@@ -106,7 +107,7 @@ pub fn meeting(first: &mut [u8], second: &mut [u8], buffer: &mut [u8]) -> u32
     let Checked::Good(g) = d else {
         return Refusal::ABOVE + image::number_of(d);
     };
-    if (h.n != g.n) | (h.stall == g.stall) {
+    if h.n != g.n || h.stall == g.stall {
         return Refusal::Strangers.answer();
     }
     if buffer.len() != usize::from(h.n) {

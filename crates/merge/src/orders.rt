@@ -17,7 +17,7 @@ fn sorted(x: &Both<'_>, d: Decided) -> Sets
     ensures { Sorts x.now.first.n x.now.first.own x.now.second.own d result }
 {
     let pair = bit_of(x.first.own) | bit_of(x.second.own);
-    let others = without(all_stalls(x.first.n), pair);
+    let others = without(all_stalls(&x.first), pair);
     Sets {
         pair,
         first: without(others, d.two),
@@ -33,9 +33,10 @@ fn source(x: Sets, r: usize) -> u64
     ensures { result ≡ from_second x (suc r) }
 {
     if has_stall(x.alone, r) {
-        return x.second;
+        x.second
+    } else {
+        pick(has_stall(x.second, r), x.alone)
     }
-    pick(has_stall(x.second, r), x.alone)
 }
 
 // The order marks of the stall behind r others, by those that it has in both images.
@@ -48,7 +49,7 @@ fn order_of(x: Sets, r: usize, mine: u64, theirs: u64) -> u64
     pick(has_stall(x.heard, r), x.pair) | (first | second)
 }
 
-// The order marks of all stalls after a meeting, by who has them.
+// The order marks of all stalls after a meeting, by who has them. Entries are read at their places: see marked (known.rt).
 fn merged_orders(x: &Both<'_>, sets: Sets) -> [u16; STALLS]
     ensures { ByStall 0 largest x.now.first.n (λ r. order_of sets r (order_at x.now.first.bytes.now x.now.first.n r) (order_at x.now.second.bytes.now x.now.first.n r) % 65536) result }
 {

@@ -47,15 +47,15 @@ fn row_after(x: &Both<'_>, at: usize, met: bool, theirs: bool, latest: [u8; ROW]
         ≡ cond met latest (padded x.now.first.n (take (x.now.first.n * 2) (drop at (cond theirs x.now.second.bytes.now x.now.first.bytes.now)))) }
 {
     if met {
-        return latest;
+        latest
+    } else if theirs {
+        row_of(&x.second, at)
+    } else {
+        row_of(&x.first, at)
     }
-    if theirs {
-        return row_of(&x.second, at);
-    }
-    row_of(&x.first, at)
 }
 
-// The rows of all stalls after a meeting with label k; two has the stalls that come from the second.
+// The rows of all stalls after a meeting with label k; two has the stalls that come from the second. Rows are found by their places: see used_labels (label.rt).
 pub(crate) fn merged_rows(x: &Both<'_>, k: u8, two: u64) -> [[u8; ROW]; STALLS]
     ensures { (r : ℕ) → 1 ≤ r → r ≤ x.now.first.n
         → get_or result (r - 1) [] ≡ padded x.now.first.n (body_row x.now.first.bytes.now x.now.second.bytes.now x.now.first.n x.now.first.own x.now.second.own k (has two) r) }

@@ -1,6 +1,6 @@
 // Rows, yields and order entries written into an image, lent for writing with its number of stalls beside it: a view that holds a `&mut` is no plainer, since each function that takes one
 // must promise that it lends the same image still (`x.new.bytes.ghost_name ≡ x.old.bytes.ghost_name`).
-// Rows, yields and entries come by value, in arrays with room for the largest parlour: the scope document names the form, and firmware has no heap.
+// Rows, yields and entries come by value, in arrays with room for the largest parlour: the scope document names the form of rows, and firmware has no heap.
 ghost use Rattle.std.specs.Prelude.{◌≡◌, ℕ, ◌+◌, ◌-◌, ◌*◌, ◌^◌, ◌<◌, ◌≤◌, ◌++◌, length, take, drop, get_or};
 ghost use Rattle.image.specs.Layout.{orders_place, yields_place};
 ghost use Rattle.image.specs.Frame.{Sized};
@@ -27,7 +27,7 @@ pub(crate) fn write_at(image: &mut [u8], at: usize, bytes: &[u8])
     image[at..at + bytes.len()].copy_from_slice(bytes);
 }
 
-// The rows of n stalls.
+// The rows of n stalls. Not by `chunks_exact_mut`, for the reason at `mixed` (pairs.rt).
 pub(crate) fn write_rows(image: &mut [u8], n: usize, rows: [[u8; ROW]; STALLS])
     requires { Sized image.old n }
     ensures { image.new
@@ -50,7 +50,7 @@ pub(crate) fn write_yields(image: &mut [u8], n: usize, yields: [u8; ROW])
     write_at(image, at, &yields[..n + n]);
 }
 
-// The order entries of n stalls.
+// The order entries of n stalls, at their places: put_order writes one there, as wide as n says.
 pub(crate) fn write_orders(image: &mut [u8], n: usize, orders: [u16; STALLS])
     requires { Sized image.old n × ((r : ℕ) → 1 ≤ r → r ≤ n → get_or orders (r - 1) 0 < 2 ^ n) }
     ensures { image.new ≡ take (orders_place n) image.old ++ each n (order_in orders n) }

@@ -30,5 +30,5 @@ module _ (partner label stall : ℕ) (l : 1 ≤ stall) where
 pub returns-then-label-gt63 : goal.returns-then-label-gt63
 returns-then-label-gt63 c = over _ _ _ c.requires c.if-label-gt63.true
 
-pub returns : goal.returns
-returns c = within _ _ _ c.requires c.if-label-gt63.false c.pick.ensures.0 c.bit_of.ensures
+pub returns-else-label-gt63 : goal.returns-else-label-gt63
+returns-else-label-gt63 c = within _ _ _ c.requires c.if-label-gt63.false c.pick.ensures.0 c.bit_of.ensures

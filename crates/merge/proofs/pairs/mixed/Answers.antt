@@ -20,6 +20,6 @@ loop-c-preserved c =
     let u = a.x.now.second.bytes.now in
     let pair = mixed_pair s a.a u a.b (has a.two) in (
       simp length-set l.invariant.0,
-      pairs_next pair (mixed_wide s a.a u a.b (has a.two)) l.row l.c c.pick-pair.result.high c.pick-pair.result.low (omega (arith, a.x.now.first.framed.n_to, c.from-c-end.ensures)) l.invariant.1
-          (mixed_at s a.a u a.b (has a.two) l.c _ c.pick-pair.result c.has_stall.ensures c.pick-pair.ensures),
+      pairs_next pair (mixed_wide s a.a u a.b (has a.two)) l.row l.c c.chosen-pair.result.high c.chosen-pair.result.low (omega (arith, a.x.now.first.framed.n_to, c.from-c-end.ensures)) l.invariant.1
+          (mixed_at s a.a u a.b (has a.two) l.c _ c.chosen-pair.result c.has_stall.ensures c.chosen-pair.ensures),
     )
