@@ -11,7 +11,7 @@ use Rattle.image.specs.Stalls.{each, count_stalls, has}
 use Rattle.image.specs.Layout.{order_from, order_place, mark_at}
 use Rattle.image.specs.declared.Header.{Header}
 use Rattle.image.specs.declared.Checked.{Checked}
-use Rattle.image.specs.declared.Checked.TheVariants.{Good, Refused}
+use Rattle.image.specs.declared.Checked.TheVariants.{Good}
 use Rattle.image.proofs.Has.{length_each}
 use Rattle.image.proofs.Blocks.{blocks, pasted_next, blocks_end}
 use Rattle.head.specs.Settled.{settled_counts, Settled, settled_from}

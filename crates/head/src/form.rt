@@ -1,4 +1,5 @@
-// The forms that a table is stored in, and the calls that are one for all of them.
+// The forms that a table is stored in, and the calls that are one for all of them. These answer numbers, as the exports do that pass them on:
+// specs/ state a call as a record of its answer and what it leaves (Outcome, HeardOutcome, Settled), in which a Result would be a second answer.
 ghost use Rattle.std.specs.Prelude.{◌≡◌, ◌≤◌, true, false, Bool, ℕ, List, not, eqb, length};
 ghost use Rattle.image.specs.Check.{bad_stall, checked};
 ghost use Rattle.image.specs.Fresh.{fresh_image};
@@ -41,7 +42,7 @@ pub trait Form {
     fn is_count(n: u8) -> bool
         ensures { result ≡ is_count n };
 
-    // Bytes of a table of n heads, 0 where none has this form.
+    // Bytes of a table of n heads, 0 where none has this form: no Option, as the lengths that specs/ name are numbers, and `fresh` only compares it.
     fn length_of(n: usize) -> usize
         ensures { result ≡ length_of n };
 
@@ -52,6 +53,7 @@ pub trait Form {
 }
 
 // Stored as the image itself.
+#[derive(Clone, Copy, Debug, PartialEq, Eq)]
 pub struct Plain;
 
 impl Form for Plain {
@@ -120,13 +122,12 @@ pub fn milking<F: Form>(table: &mut [u8], given: u16) -> u32
     if Head::YIELD_LIMIT < given {
         return Refusal::Yield.number();
     }
-    let [high, low] = given.to_be_bytes();
-    table[2] = high;
-    table[3] = low;
+    table[2..4].copy_from_slice(&given.to_be_bytes());
     0
 }
 
-// What the later parts of a call read of an image that passed its check.
+// What the later parts of a call read of an image that passed its check. Not in image, for merge too: a public function would need the requires,
+// which no public function gains.
 fn accepted<'a>(bytes: &'a [u8], h: Header) -> Image<'a>
     requires { checked bytes.now ≡ Good h }
     ensures { (result.bytes.now ≡ bytes.now) × (result.n ≡ h.n) × (result.own ≡ h.stall) }

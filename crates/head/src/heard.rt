@@ -11,7 +11,7 @@ use image::rows::{is_never, own_row};
 use image::{Entry, Image, STALLS};
 use rank::Record;
 
-// The first records of an array. By value: no heap.
+// The first records of an array: no heap, so the array with how many it holds.
 #[derive(Clone, Copy, Debug, PartialEq, Eq)]
 struct Gathered {
     records: [Record; STALLS],
@@ -25,7 +25,8 @@ fn is_heard(e: Entry) -> bool
     !is_never(e.name)
 }
 
-// The record of a stall whose yield is at a place.
+// The record of a stall whose yield is at a place, by its two bytes: word_at of image is for that crate alone, and for all it would be a public
+// function with a requires.
 fn record_at(image: &[u8], stall: usize, at: usize) -> Record
     requires { (stall < 256) × (at + 1 < length image.now) }
     ensures { result ≡ record { stall = stall; given = word image.now at } }
@@ -45,7 +46,8 @@ fn one_more(count: usize, holds: bool) -> usize
     if holds { count + 1 } else { count }
 }
 
-// The records of the heard stalls of a head, by stall number. One of a stall never heard is written too, and the next takes its place.
+// The records of the heard stalls of a head, by stall number. One of a stall never heard is written too, and the next takes its place. The place of
+// the yield goes along: computed from a byte that counts, with `usize::from` for one_more, the heard list of three heads took 1.08 of this time.
 fn gather(x: &Image<'_>) -> Gathered
     ensures { (result.count ≤ x.now.n)
         × (take result.count result.records
@@ -76,7 +78,8 @@ fn put_record(bytes: &mut [u8], at: usize, r: Record)
     bytes[at + 2] = low;
 }
 
-// The bytes of the first records of an array.
+// The bytes of the first records of an array. By value and by an index: as a slice of what `in_order` answers, with `iter().enumerate()`, the array
+// gets a place of its own, zeros and a copy, and the heard list took 1.03 to 1.06 of its time at two to four heads.
 fn put_records(bytes: &mut [u8], records: [Record; STALLS], count: usize)
     requires { (count ≤ largest) × (3 * count ≤ length bytes.old) }
     ensures { bytes.new ≡ flat_map bytes_of (take count records) ++ drop (3 * count) bytes.old }
@@ -92,8 +95,7 @@ pub(crate) fn heard_list(x: &Image<'_>, bytes: &mut [u8]) -> u32
     ensures { ◌≡◌ {A = HeardOutcome} (record { answer = result; records = bytes.new }) (heard_list x.now.bytes.now x.now.n x.now.own) }
 {
     let Gathered { records, count } = gather(x);
-    // `in_order` works on a copy: `place` on the records where they were just written waits for these stores, 1.31 against 1.09 of the
-    // time of a sort by hand at two heads.
+    // `in_order` works on a copy: `place` on the records where they were just written waits for these stores, and took 1.2 of the time at two heads.
     put_records(bytes, rank::in_order(records, count), count);
     clear_from(bytes, 3 * count);
     // There is no From of a usize to u32.

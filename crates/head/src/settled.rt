@@ -13,10 +13,10 @@ fn set_size(set: u64, n: u8) -> u32
     requires { n ≤ largest }
     ensures { (result ≡ count_stalls n (has set)) × (result ≤ n) }
 {
-    u64::count_ones(set & (bit_of(n + 1) - 1))
+    (set & (bit_of(n + 1) - 1)).count_ones()
 }
 
-// The numbers of a head into a buffer of the right length.
+// The numbers of a head into a buffer of the right length. The place of the entries goes along: one has one byte or two, which order_at reads there.
 pub(crate) fn put_counts(x: &Image<'_>, counts: &mut [u8])
     requires { length counts.old ≡ x.now.n }
     ensures { counts.new ≡ settled_counts x.now.bytes.now x.now.n }
@@ -24,9 +24,9 @@ pub(crate) fn put_counts(x: &Image<'_>, counts: &mut [u8])
     let n = usize::from(x.n);
     let width = order_width(n);
     let mut at = orders_place(x.bytes.len(), n);
-    for r in 0..n {
+    for count in counts.iter_mut() {
         // At most 16: `try_from` would add a branch.
-        counts[r] = set_size(order_at(x.bytes, n, at), x.n) as u8;
+        *count = set_size(order_at(x.bytes, n, at), x.n) as u8;
         at += width;
     }
 }

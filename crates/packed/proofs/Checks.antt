@@ -17,7 +17,7 @@ use Rattle.image.specs.declared.Checked.TheVariants.{Good, Refused}
 use Rattle.image.proofs.OrderEntry.{length_is}
 use Rattle.image.proofs.Stages.{length_range, refused_empty, refused_2}
 use Rattle.image.proofs.Accepted.{Accepted, accepted}
-use Rattle.packed.specs.Form.{largest_packed, is_packed_count, longest_unpacked, packed_length, packed_image_length, unpacked_of, unpacked}
+use Rattle.packed.specs.Form.{largest_packed, longest_unpacked, packed_length, packed_image_length, unpacked_of, unpacked}
 use Rattle.packed.specs.Check.{bad_packed_count, bad_packed_length, packed_checked, packable_checked}
 use Rattle.packed.specs.Bytes.{plain_of}
 use Rattle.packed.proofs.Sizes.{PackedSized, packed_length_is, packed_few, plain_short, same_count, length_unpacked, count_of, stall_unpacked, unpacked_is, unpacked_none, packed_count, count_passes, packed_sized, sized_unpacked, unpacked_long}

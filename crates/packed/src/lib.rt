@@ -21,17 +21,19 @@ mod name_bytes;
 mod pack;
 mod unpack;
 
-// The most heads of a parlour whose tables can be packed, and the bytes of their plain image.
+// The most heads of a parlour whose tables can be packed, and the bytes of their plain image. A constant is cast: std has no From that is computed
+// before the program runs.
 const PACKED_LARGEST: u8 = 8;
 
 const PACKED_STALLS: usize = PACKED_LARGEST as usize;
 
 const UNPACKED: usize = 4 + 2 * PACKED_STALLS * PACKED_STALLS + 3 * PACKED_STALLS;
 
-// Lengths of packed images by the number of stalls.
+// Lengths of packed images by the number of stalls: a table, since docs/DECISIONS.md has the checks read lengths and not multiply.
 const PACKED_LENGTHS: [usize; PACKED_STALLS + 1] = [0, 0, 14, 22, 32, 44, 58, 74, 92];
 
-// This and the length stand beside the form's, which call them: the pages name both.
+// This and the length stand beside the form's, which call them, and beside those of image, from which each differs in a constant or a table: one
+// comparison and one look have fewer lines than a common function would have parameters, and docs/ name the two of a length.
 // n is not that of a parlour whose tables can be packed.
 pub fn bad_packed_count(n: u8) -> bool
     ensures { result ≡ not (is_packed_count n) }
@@ -39,7 +41,7 @@ pub fn bad_packed_count(n: u8) -> bool
     !((2 <= n) & (n <= PACKED_LARGEST))
 }
 
-// The length of a packed image of n stalls, 0 where n is not 2 to 8.
+// The length of a packed image of n stalls, 0 where n is not 2 to 8: no Option, as `packed_length` in specs/ is a number, and the callers compare it.
 #[tactic(auto, using(crate::proofs::PackedLengths::rule))]
 pub fn packed_length_of(n: usize) -> usize
     ensures { result ≡ packed_length n }
@@ -52,6 +54,7 @@ pub fn packed_length_of(n: usize) -> usize
 }
 
 // Stored with one byte a name.
+#[derive(Clone, Copy, Debug, PartialEq, Eq)]
 pub struct Packed;
 
 impl Form for Packed {
@@ -67,6 +70,7 @@ impl Form for Packed {
 
     ghost fresh = { λ n stall. packed_image n stall nothing };
 
+    // On the stack: no heap.
     type Room = [u8; UNPACKED];
 
     fn room() -> [u8; UNPACKED] {
@@ -116,11 +120,8 @@ pub fn check(packed: &[u8]) -> Checked
 fn packable(image: &[u8]) -> Checked
     ensures { result ≡ packable_checked image.now }
 {
-    if image.len() == 0 {
-        return Checked::Refused(Refusal::Count as u32);
-    }
-    if bad_packed_count(image[0]) {
-        return Checked::Refused(Refusal::Count as u32);
+    if image.is_empty() || bad_packed_count(image[0]) {
+        return Checked::Refused(Refusal::Count.number());
     }
     image::check(image)
 }
@@ -222,6 +223,7 @@ pub extern "C" fn wilbryn_packed_meeting(
     let one = unpack_into(first, &mut one_room);
     let two = unpack_into(second, &mut two_room);
     let answer = head::wilbryn_meeting(one, two, verdicts);
+    // By its number: this is the answer of an export, which has no other form.
     if Refusal::ABOVE <= answer {
         return answer;
     }

@@ -1,5 +1,9 @@
 // An image packed, row by row. These functions and those of `unpack` go in opposite directions, over names of two bytes and of one: a common
 // one would need a trait with a method for each line, which is no plainer.
+// Image, packed image and n stay three parameters in these functions: one of the runs is lent `&mut` in each, and a struct that holds a `&mut` needs a
+// clause more on each method; one that holds the other would say half of what they require, as both lengths go by the same n.
+// Columns are counted, and rows have places that go along: what is written through the items that `iter_mut` hands out in a zip or as chunks has no
+// name in the loop's invariant (tried at `copy`), and unpacking is part of the check, which divides by no n as `chunks_exact(n)` does.
 ghost use Rattle.std.specs.Prelude.{◌≡◌, ◌+◌, ◌-◌, ◌*◌, ◌%◌, ◌≤◌, [], ◌∷◌, ◌++◌, length, take, drop, get_or};
 ghost use Rattle.image.specs.Layout.{largest, name_from};
 ghost use Rattle.image.specs.Frame.{Sized};

@@ -1,4 +1,4 @@
-// A packed image unpacked, row by row; and what is handed to the plain calls in its place.
+// A packed image unpacked, row by row; and what is handed to the plain calls in its place. The forms of the loops and the parameters: see pack.rt.
 ghost use Rattle.std.specs.Prelude.{◌≡◌, ◌+◌, ◌-◌, ◌*◌, ◌≤◌, ◌++◌, length, take, drop, get_or};
 ghost use Rattle.image.specs.Layout.{largest, yields_place};
 ghost use Rattle.image.specs.Frame.{Sized};
@@ -62,6 +62,7 @@ fn unpack_image(packed: &[u8], image: &mut [u8], n: usize)
 pub(crate) fn unpack_into<'a>(packed: &[u8], room: &'a mut [u8; UNPACKED]) -> &'a mut [u8]
     ensures { result.now ≡ plain_of packed.now }
 {
+    // Part of the check: firmware/products follows no is_empty.
     if packed.len() == 0 {
         return &mut room[..0];
     }

@@ -14,7 +14,8 @@ mod lines;
 // The bytes of a panel: sixteen a line, one more than any line needs.
 pub const PANEL_LENGTH: usize = 16 * STALLS;
 
-// The panel of a table, whatever its form: how many bytes of text, or 256 plus the number of the refusal.
+// The panel of a table, whatever its form: how many bytes of text, or 256 plus the number of the refusal. A number, as the exports that pass it on
+// have: specs/ state a call as a record of its answer and the buffer (PanelOutcome), in which a Result would be a second answer.
 #[tactic(auto, using(head::proofs::HeardCalls::accepts), unfolding(crate::specs::Panel::panel_from, crate::specs::Panel::panel_length))]
 pub fn panel<F: Form>(table: &[u8], text: &mut [u8]) -> u32
     ensures { ◌≡◌ {A = PanelOutcome} (record { answer = result; text = text.new }) (panel_call (F.plain table.now) text.old) }

@@ -2,7 +2,7 @@
 use Prim.Native.Nat.{◌*◌}
 use mathlib.Core.Path.{sym, ap, ◌∙◌}
 use Rattle.panel.specs.Panel.{panel_length}
-use Rattle.panel.proofs.Calls.{used_few, buffer_long, array_long, count_few, bytes_long, panel_heard}
+use Rattle.panel.proofs.Calls.{used_few, buffer_long, count_few, bytes_long, panel_heard}
 use Rattle.panel.proofs.panel.Goals as goal
 
 pub slice_bounds-records-end : goal.slice_bounds-records-end
@@ -12,10 +12,6 @@ slice_bounds-records-end g c = used_few (g.F.Form.plain c.args.table.now) (sym c
 pub slice_bounds-heard-end : goal.slice_bounds-heard-end
 unfolding panel_length
 slice_bounds-heard-end g c = sym (buffer_long (g.F.Form.plain c.args.table.now) (sym c.check-c.ensures.checked ∙ c.in-Good.is) (ap (λ k. 3 * k) c.from-used.ensures))
-
-pub slice_bounds-write_panel-end : goal.slice_bounds-write_panel-end
-unfolding panel_length
-slice_bounds-write_panel-end g c = sym (array_long (g.F.Form.plain c.args.table.now) (sym c.check-c.ensures.checked ∙ c.in-Good.is) (ap (λ k. 3 * k) c.from-used.ensures) c.heard-count.ensures c.heard-count.auto.records)
 
 pub write_panel-requires : goal.write_panel-requires
 unfolding panel_length

@@ -11,5 +11,5 @@ put_long-last-requires t c = (omega arith, room_first _ _ (room_is (decimal_larg
 pub put_digit-requires : goal.put_digit-requires
 put_digit-requires t c = (omega arith, room_then _ (room_is (decimal_large _ (omega arith)) c.requires) c.put_long-last.ensures)
 
-pub returns : goal.returns
-returns t c = put_is (decimal_large _ (omega arith)) (put_then c.put_long-last.ensures c.put_digit.ensures)
+pub returns-else-k-lt100 : goal.returns-else-k-lt100
+returns-else-k-lt100 t c = put_is (decimal_large _ (omega arith)) (put_then c.put_long-last.ensures c.put_digit.ensures)

@@ -12,9 +12,6 @@ use Rattle.panel.proofs.lines.put_lines.Goals as goal
 pub loop-i-init : goal.loop-i-init
 loop-i-init c = (omega arith, put_none _ _, omega arith, refl)
 
-pub record_at-requires : goal.record_at-requires
-record_at-requires c = omega arith
-
 pub put_line-at-requires : goal.put_line-at-requires
 put_line-at-requires c = line_room _ _ (c.loop-i.invariant.3 ∙ c.requires.2) c.loop-i.invariant.2 c.loop-i-test.true c.requires.0 (line_short (c.loop-i.i + 1) c.record_at.result (omega (arith, c.requires.0)) (omega (arith, c.record_at.type_inv)) (omega (arith, c.record_at.type_inv)))
 

@@ -14,8 +14,8 @@ returns-then-k-lt10 c = put_is (decimal_small _ (omega arith)) c.put_digit.ensur
 pub put_digit-last-requires : goal.put_digit-last-requires
 put_digit-last-requires c = (omega arith, room_first _ _ (room_is (decimal_two _ (omega arith) (omega arith)) c.requires.1))
 
-pub put_digit-requires-2 : goal.put_digit-requires-2
-put_digit-requires-2 c = (omega arith, room_then _ (room_is (decimal_two _ (omega arith) (omega arith)) c.requires.1) c.put_digit-last.ensures)
+pub put_digit-requires-else-k-lt10 : goal.put_digit-requires-else-k-lt10
+put_digit-requires-else-k-lt10 c = (omega arith, room_then _ (room_is (decimal_two _ (omega arith) (omega arith)) c.requires.1) c.put_digit-last.ensures)
 
-pub returns : goal.returns
-returns c = put_is (decimal_two _ (omega arith) (omega arith)) (put_then c.put_digit-last.ensures c.put_digit-2.ensures)
+pub returns-else-k-lt10 : goal.returns-else-k-lt10
+returns-else-k-lt10 c = put_is (decimal_two _ (omega arith) (omega arith)) (put_then c.put_digit-last.ensures c.put_digit-else-k-lt10.ensures)

@@ -4,10 +4,6 @@ use Rattle.panel.specs.Panel.{panel_length}
 use Rattle.panel.proofs.Listed.{panel_shown}
 use Rattle.panel.proofs.lines.write_panel.Goals as goal
 
-pub clear_from-requires : goal.clear_from-requires
-unfolding panel_length
-clear_from-requires c = omega (arith, c.put_lines-used.ensures.1, c.put_lines-used.auto.text, c.requires.2)
-
 pub overflow_cast-result : goal.overflow_cast-result
 unfolding panel_length
 overflow_cast-result c = omega (arith, c.put_lines-used.ensures.1)
