@@ -1,4 +1,5 @@
-// Every call of wilbryn.h in one archive. Each does what its crate's does, by the same contract.
+// Every call of wilbryn.h in one archive. Each does what its crate's does, by the same contract. They stand here again, with C's slices and
+// numbers, since only a static library exports: the C interface needs it.
 #![tactic(auto)]
 
 ghost use Rattle.std.specs.Prelude.{◌≡◌};

@@ -1,4 +1,5 @@
-// The calls of `panel` for C, in an archive of their own. Each does what its crate's does, by the same contract.
+// The calls of `panel` for C, in an archive of their own. Each does what its crate's does, by the same contract. They stand here again, since
+// only a static library exports: the C interface needs it.
 #![tactic(auto)]
 
 ghost use Rattle.std.specs.Prelude.{◌≡◌};
