@@ -54,9 +54,9 @@ module _ (c : ℕ) (digit : is_digit c ≡ true) where
   unfolding digit_value
   value_low l = rw (le-leb c 57 l) (refl, omega arith)
 
-  pub value_high : 57 < c → (c - 87 ≡ digit_value c) × (c - 87 ≤ 15)
+  pub value_high : 57 < c → (c - 97 + 10 ≡ digit_value c) × (c - 97 + 10 ≤ 15)
   unfolding digit_value
-  value_high l = rw (lt-leb c 57 l) (refl, omega (arith, (high_digit l).1))
+  value_high l = rw (lt-leb c 57 l) (omega (arith, (high_digit l).0), omega (arith, (high_digit l).1))
 
 -- a line of digits, as std says that a test holds of all
 pub list_all_digits : (l : List ℕ) → list_all is_digit l ≡ all_digits l

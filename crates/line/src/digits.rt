@@ -1,4 +1,5 @@
-// Hexadecimal digits in ASCII, lower case: read from a line, written to a buffer.
+// Hexadecimal digits in ASCII, lower case: read from a line, written to a buffer. By hand: `from_str_radix` takes text, with upper case and a sign
+// too, which a line may not have, and `{:02x}` is written by a `write!` that may fail, which `answer` may not.
 ghost use Rattle.std.specs.Prelude.{◌≡◌, true, ◌++◌, ◌+◌, ◌*◌, ◌≤◌, ◌<◌, length, get_or, take, drop};
 ghost use Rattle.line.specs.Digits.{is_digit, digit_value, all_digits, pair_value, digit_of, pair_of, digits_of};
 
@@ -6,7 +7,7 @@ ghost use Rattle.line.specs.Digits.{is_digit, digit_value, all_digits, pair_valu
 fn is_digit(c: u8) -> bool
     ensures { result ≡ is_digit c }
 {
-    ((b'0' <= c) & (c <= b'9')) | ((b'a' <= c) & (c <= b'f'))
+    matches!(c, b'0'..=b'9' | b'a'..=b'f')
 }
 
 // Every byte of a line is a digit.
@@ -22,10 +23,7 @@ fn value(c: u8) -> u8
     requires { is_digit c ≡ true }
     ensures { (result ≡ digit_value c) × (result ≤ 15) }
 {
-    if c <= b'9' {
-        return c - b'0';
-    }
-    c - 87
+    if c <= b'9' { c - b'0' } else { c - b'a' + 10 }
 }
 
 // The byte of the two digits at a place.
@@ -43,10 +41,7 @@ fn digit_of(v: u8) -> u8
     requires { v < 16 }
     ensures { result ≡ digit_of v }
 {
-    if v < 10 {
-        return b'0' + v;
-    }
-    87 + v
+    if v < 10 { b'0' + v } else { b'a' + (v - 10) }
 }
 
 // The two digits of a byte at a place.
@@ -59,7 +54,7 @@ pub(crate) fn put_byte(out: &mut [u8], at: usize, byte: u8)
     out[at + 1] = digit_of(byte % 16);
 }
 
-// The digits of bytes from a place on.
+// The digits of bytes from a place on. (`chunks_exact_mut` and `zip` were tried: as at `open_slots`, `returns` stayed open.)
 pub(crate) fn put_bytes(out: &mut [u8], at: usize, bytes: &[u8])
     requires { at + 2 * length bytes.now ≤ length out.old }
     ensures { out.new

@@ -5,7 +5,7 @@ ghost use Rattle.line.specs.Frame.{kind_of_two, kind_of_three, kind_of_four, fra
 
 use crate::digits::{are_digits, byte_at};
 
-// What a line asks for. A line that is no frame is `Bad`, and `parse` answers no Option or Result: what may not change names the case, in
+// What a line asks for. A line that is no frame is `Bad`, and `parse` answers no Option or Result: what is promised names the case, in
 // `frame_of`, `reply_to` and its theorem `refusal_alone`, and in what `sessions` says of each frame (`answer_to`, `opens`, `items_of`).
 #[derive(Clone, Copy, Debug, PartialEq, Eq)]
 pub enum Frame {
@@ -18,16 +18,29 @@ pub enum Frame {
     Bad,
 }
 
+// The kinds of frames: the first byte of each. Numbers, and no enum of kinds: they are read here alone, and an enum would say again what Frame says.
+const OPEN: u8 = 1;
+
+const MILKING: u8 = 2;
+
+const MEETING: u8 = 3;
+
+const SHOW: u8 = 4;
+
+const HEARD: u8 = 5;
+
+const SETTLED: u8 = 6;
+
 // The kinds of two bytes.
 #[tactic(auto, unfolding(crate::specs::Frame::kind_of_two))]
 fn of_two(kind: u8, x: u8) -> Frame
     ensures { result ≡ kind_of_two kind x }
 {
     match kind {
-        1 => Frame::Open(x),
-        4 => Frame::Show(x),
-        5 => Frame::Heard(x),
-        6 => Frame::Settled(x),
+        OPEN => Frame::Open(x),
+        SHOW => Frame::Show(x),
+        HEARD => Frame::Heard(x),
+        SETTLED => Frame::Settled(x),
         _ => Frame::Bad,
     }
 }
@@ -38,7 +51,7 @@ fn of_three(kind: u8, x: u8, y: u8) -> Frame
     ensures { result ≡ kind_of_three kind x y }
 {
     match kind {
-        3 => Frame::Meeting(x, y),
+        MEETING => Frame::Meeting(x, y),
         _ => Frame::Bad,
     }
 }
@@ -49,7 +62,7 @@ fn of_four(kind: u8, x: u8, high: u8, low: u8) -> Frame
     ensures { result ≡ kind_of_four kind x high low }
 {
     match kind {
-        2 => Frame::Milking(x, u16::from_be_bytes([high, low])),
+        MILKING => Frame::Milking(x, u16::from_be_bytes([high, low])),
         _ => Frame::Bad,
     }
 }

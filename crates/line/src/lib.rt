@@ -25,8 +25,12 @@ pub const STATE: usize = 1 + STALLS * LONGEST;
 pub const ANSWER: usize = 2 + 2 * LONGEST;
 
 // `state` and `out` are lent side by side: a struct of the two is no plainer, since each function that takes one with a `&mut` in it has to
-// ensure for each that it is the same reference still, and three of them only read the state.
-// What `answer` is lent, and that it cannot fail, may not change: so there is no Vec inside, and a buffer is the front of an array.
+// ensure for each that it is the same reference still. Nor is a view of the state for `show`, `heard` and `settled`, which only read it: they
+// write `out` and would ask for its length still, and `reply_open`, where others write the state, would make the view in three of its arms.
+// What `answer` is lent, and that it cannot fail, is promised: so there is no Vec inside, and a buffer is the front of an array.
+
+// Three forms of answer: a byte; 00 and bytes; 00, a byte and bytes. `reply_bytes` by `reply_with` would take its bytes apart into a first and a
+// rest, and ask for a first: no plainer.
 
 // An answer of one byte: a refusal's number, or 0.
 #[tactic(auto, using(crate::proofs::Replying::written_one))]
@@ -80,7 +84,7 @@ fn milk(state: &mut [u8], stall: u8, given: u16, out: &mut [u8]) -> Result<usize
     ensures { finished result state.new out.new ≡ replied out.old (milking state.old stall given) }
 {
     let slot = slot_of(state, stall)?;
-    let number = head::wilbryn_milking(&mut state[slot.start..slot.end], given);
+    let number = head::wilbryn_milking(&mut state[slot], given);
     accepted(number)?;
     Ok(reply_byte(out, 0))
 }
@@ -116,7 +120,7 @@ fn show(state: &[u8], stall: u8, out: &mut [u8]) -> Result<usize, Refusal>
     ensures { finished result state.now out.new ≡ replied out.old (showing state.now stall) }
 {
     let slot = slot_of(state, stall)?;
-    Ok(reply_bytes(out, &state[slot.start..slot.end]))
+    Ok(reply_bytes(out, &state[slot]))
 }
 
 // Shows the heard list of the head at a stall. (`settled` looks alike but is no twin: its call answers 0 and not a count, and all of its buffer is told.)
@@ -127,7 +131,7 @@ fn heard(state: &[u8], stall: u8, out: &mut [u8]) -> Result<usize, Refusal>
     let slot = slot_of(state, stall)?;
     let n = usize::from(state[0]);
     let mut records = [0u8; 3 * STALLS];
-    let answer = head::wilbryn_heard(&state[slot.start..slot.end], &mut records[..3 * n]);
+    let answer = head::wilbryn_heard(&state[slot], &mut records[..3 * n]);
     let count = answered(answer)?;
     Ok(reply_with(out, count, &records[..3 * usize::from(count)]))
 }
@@ -140,7 +144,7 @@ fn settled(state: &[u8], stall: u8, out: &mut [u8]) -> Result<usize, Refusal>
     let slot = slot_of(state, stall)?;
     let n = usize::from(state[0]);
     let mut counts = [0u8; STALLS];
-    let number = head::wilbryn_settled(&state[slot.start..slot.end], &mut counts[..n]);
+    let number = head::wilbryn_settled(&state[slot], &mut counts[..n]);
     accepted(number)?;
     Ok(reply_bytes(out, &counts[..n]))
 }
@@ -190,10 +194,7 @@ fn reply(state: &mut [u8], frame: Frame, out: &mut [u8]) -> Result<usize, Refusa
 pub fn answer(state: &mut [u8], line: &[u8], out: &mut [u8]) -> usize
     ensures { outcome result state.new out.new ≡ answer_call state.old line.now out.old }
 {
-    if state.len() != STATE {
-        return 0;
-    }
-    if out.len() < ANSWER {
+    if state.len() != STATE || out.len() < ANSWER {
         return 0;
     }
     match reply(state, frame::parse(line), out) {

@@ -1,4 +1,5 @@
 // The state between lines: N, then a slot for each stall; a parlour just opened, and a meeting of two of its heads.
+// It is a slice whose length the clauses ask for, since `answer` is lent a slice, as it promises.
 ghost use Rattle.std.specs.Prelude.{◌≡◌, true, ◌++◌, ◌+◌, ◌≤◌, length, take, drop, IfOk, IfErr};
 ghost use Rattle.image.specs.Check.{bad_stall};
 ghost use Rattle.image.specs.Layout.{largest, longest};
@@ -11,16 +12,10 @@ ghost use Rattle.line.specs.declared.refusal.Refusal.TheVariants.{Image};
 use crate::refusal::Refusal;
 use image::bytes::{bad_stall, clear_from};
 use image::{Head, LARGEST, LONGEST, length_of};
+use std::ops::Range;
 
-// The bytes of a head's image in the state.
-#[derive(Clone, Copy, Debug, PartialEq, Eq)]
-pub(crate) struct Slot {
-    pub(crate) start: usize,
-    pub(crate) end: usize,
-}
-
-// The slot of a stall, which is refused where the parlour has no such stall.
-pub(crate) fn slot_of(state: &[u8], stall: u8) -> Result<Slot, Refusal>
+// The bytes of a head's image in the state, by its stall, which is refused where the parlour has no such stall.
+pub(crate) fn slot_of(state: &[u8], stall: u8) -> Result<Range<usize>, Refusal>
     requires { (length state.now ≡ state_length) × (2 ≤ heads_of state.now) × (heads_of state.now ≤ largest) }
     ensures found { IfOk result (λ slot. IsSlot state.now stall slot.start slot.end) }
     ensures refused { IfErr result (λ e. (e ≡ Image Stall) × (bad_stall (heads_of state.now) stall ≡ true)) }
@@ -31,10 +26,11 @@ pub(crate) fn slot_of(state: &[u8], stall: u8) -> Result<Slot, Refusal>
     }
     let start = 1 + (usize::from(stall) - 1) * LONGEST;
     let end = start + length_of(usize::from(n));
-    Ok(Slot { start, end })
+    Ok(start..end)
 }
 
-// The heads whose images start at two places meet. The second's is lent as a copy, in a run as long as an image.
+// The heads whose images start at two places meet. The second's is lent as a copy, in a run as long as an image: `split_at_mut` would lend both
+// where they stand, but which stands first is known as it runs, so the call would stand twice, once in each order. No plainer.
 pub(crate) fn meet_at(
     state: &mut [u8],
     a: usize,
@@ -60,12 +56,13 @@ fn open_slot(slot: &mut [u8], n: u8, stall: u8)
 {
     if stall <= n {
         Head::fresh(n, stall).write(slot);
-        return;
+    } else {
+        clear_from(slot, 0);
     }
-    clear_from(slot, 0);
 }
 
-// Every slot of a parlour of n heads just opened.
+// Every slot of a parlour of n heads just opened. (`chunks_exact_mut` and `zip` were tried: once their loan is over a proof knows how long the state
+// is, and no byte of it, so that `returns` stayed open.)
 fn open_slots(state: &mut [u8], n: u8)
     requires { (length state.old ≡ state_length) × (2 ≤ n) × (n ≤ largest) }
     ensures { state.new ≡ take 1 state.old ++ each largest (fresh_slot n) }

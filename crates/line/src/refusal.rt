@@ -11,6 +11,8 @@ pub(crate) enum Refusal {
     Line,
     // A second opening, or another frame before the first.
     Opening,
+    // What a call of a head answered stays a number, as C reads it: its contract says which number, and not that it is that of an
+    // `image::Refusal`, so TryFrom would leave a case to answer that is not there.
     Call(u8),
 }
 
@@ -20,6 +22,7 @@ impl Refusal {
         ensures { result ≡ number_of self }
     {
         match self {
+            // A cast: std has no From of an enum's number.
             Refusal::Image(refusal) => refusal as u8,
             Refusal::Line => 10,
             Refusal::Opening => 11,

@@ -16,11 +16,12 @@ pub const LINE: usize = 9;
 pub const ROOM: usize = ANSWER + 1;
 
 // The line so far is the front of `text`, `kept` bytes of it, and `state`, `text` and `out` are lent one by one: so `feed` and `finish` have
-// it, whose contracts may not change, and the functions inside follow.
+// it, as they promise. Inside, a struct of the three would hold each as a `&mut`, and every function that takes it would have to
+// ensure for each that it is the same reference still: no plainer.
 
 // How many bytes of the line so far are kept, and where the answers end.
 #[derive(Clone, Copy, Debug, PartialEq, Eq)]
-struct Place {
+struct Reached {
     kept: usize,
     end: usize,
 }
@@ -38,7 +39,7 @@ pub struct Fed {
 fn is_ready(state: &[u8], text: &[u8], kept: usize, out: &[u8]) -> bool
     ensures { result ≡ is_ready state.now text.now kept out.now }
 {
-    (state.len() == STATE) & (text.len() == LINE) & (kept <= LINE) & (ROOM <= out.len())
+    state.len() == STATE && text.len() == LINE && kept <= LINE && ROOM <= out.len()
 }
 
 // One byte more of a line.
@@ -49,9 +50,10 @@ fn keep(text: &mut [u8], kept: usize, byte: u8) -> usize
 {
     if kept < LINE {
         text[kept] = byte;
-        return kept + 1;
+        kept + 1
+    } else {
+        kept
     }
-    kept
 }
 
 // The answer to a line, and a newline, from a place on: where they end.
@@ -75,17 +77,17 @@ fn step(
     byte: u8,
     out: &mut [u8],
     at: usize,
-) -> Place
+) -> Reached
     requires { (length state.old ≡ state_length) × (length text.old ≡ longest_line) × (kept ≤ longest_line) × (at + room ≤ length out.old) }
     ensures { (result.kept ≤ longest_line) × (result.end ≤ at + room)
         × Answers state.old (keeping text.old kept) (byte ∷ []) out.old at result.end state.new (keeping text.new result.kept) out.new }
 {
     if byte == b'\n' {
         let end = answer_line(state, &text[..kept], out, at);
-        return Place { kept: 0, end };
+        return Reached { kept: 0, end };
     }
     let more = keep(text, kept, byte);
-    Place {
+    Reached {
         kept: more,
         end: at,
     }
@@ -106,9 +108,9 @@ fn feed_all(state: &mut [u8], text: &mut [u8], kept: usize, block: &[u8], out: &
                 end,
             };
         }
-        let place = step(state, text, held, byte, out, end);
-        held = place.kept;
-        end = place.end;
+        let reached = step(state, text, held, byte, out, end);
+        held = reached.kept;
+        end = reached.end;
     }
     Fed {
         taken: block.len(),
@@ -124,12 +126,13 @@ pub fn feed(state: &mut [u8], text: &mut [u8], kept: usize, block: &[u8], out: &
     ensures { FeedCall state.old text.old kept block.now out.old result state.new text.new out.new }
 {
     if is_ready(state, text, kept, out) {
-        return feed_all(state, text, kept, block, out);
-    }
-    Fed {
-        taken: 0,
-        kept,
-        end: 0,
+        feed_all(state, text, kept, block, out)
+    } else {
+        Fed {
+            taken: 0,
+            kept,
+            end: 0,
+        }
     }
 }
 
@@ -151,7 +154,8 @@ pub fn finish(state: &mut [u8], text: &[u8], kept: usize, out: &mut [u8]) -> usi
     ensures { ending result state.new out.new ≡ finish_call state.old text.now kept out.old }
 {
     if is_ready(state, text, kept, out) {
-        return last_line(state, text, kept, out);
+        last_line(state, text, kept, out)
+    } else {
+        0
     }
-    0
 }

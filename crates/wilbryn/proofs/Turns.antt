@@ -4,7 +4,7 @@ use mathlib.Core.Path.{◌≡◌, refl, sym, ap, subst, ◌∙◌}
 use mathlib.Core.Bool.{Bool, true, false}
 use mathlib.Core.List.{List, [], ◌∷◌, ◌++◌, append_assoc, append-nil}
 use native.Mathlib.Omega.{arith}
-use Rattle.std.specs.Prelude.{Err, IsErr}
+use Rattle.std.specs.Prelude.{Result, Err, IsErr}
 use Rattle.std.specs.Result.{IsErrAnd}
 use Rattle.std.proofs.lemmas.Result.{err_from_is_err_and}
 use Rattle.std.proofs.Math.Seq.{take-append_seam}
@@ -68,10 +68,10 @@ pub record Piece (state text : List ℕ) (kept : ℕ) (block rest out : List ℕ
   pub ahead : 1 ≤ length before.front
 
 pub piece : {state text out : List ℕ} {kept : ℕ} {block rest : List ℕ} {state₁ text₁ out₁ : List ℕ} {kept₁ : ℕ} {fed : Fed} {state₂ text₂ out₂ : List ℕ} → Ready state text kept out
-    → length state₁ ≡ length state → length text₁ ≡ length text → length out₁ ≡ length out → (kept₁ ≤ longest_line) × Before state text kept block rest state₁ text₁ kept₁
+    → Ready state₁ text₁ kept₁ out₁ → Before state text kept block rest state₁ text₁ kept₁
     → 1 ≤ length rest → FeedCall state₁ text₁ kept₁ rest out₁ fed state₂ text₂ out₂ → Piece state text kept block rest out₁ fed state₂ text₂
-piece {rest = rest} {fed = fed} ready i j k (to, b) l call =
-    let w = taken_of (record { state_long = i ∙ ready.state_long; text_long = j ∙ ready.text_long; kept_to = to; out_long = omega (arith, k, ready.out_long) }) call in
+piece {rest = rest} {fed = fed} ready now b l call =
+    let w = taken_of now call in
     record {
       some = w.taken_some l;
       within = w.taken_to;
@@ -90,11 +90,15 @@ piece {rest = rest} {fed = fed} ready i j k (to, b) l call =
       ahead = omega (arith, w.taken_some l, length-append b.front (take fed.taken rest), length-take-le fed.taken rest w.taken_to);
     }
 
+-- its answers end within the buffer
+pub end_fits : {state text out block state' text' out' : List ℕ} {kept : ℕ} {fed : Fed} → Ready state text kept out → FeedCall state text kept block out fed state' text' out' → fed.end ≤ length out
+end_fits ready call = (taken_of ready call).end_to
+
 -- a failure, as `?` hands it on
-pub handed_on : (r : Turn) {e : Failure} → IsErr r × IsErrAnd r (λ x. x ≡ e) → r ≡ Err e
+pub handed_on : {A : Type 0} (r : Result A Failure) {e : Failure} → IsErr r × IsErrAnd r (λ x. x ≡ e) → r ≡ Err e
 handed_on r w = let p = err_from_is_err_and r w.1 in p.1 ∙ ap Err p.2
 
-pub write_failed : (r : Turn) {e : Failure} → IsErr r × IsErrAnd r (λ x. x ≡ e) → e ≡ Write → r ≡ Err Write
+pub write_failed : {A : Type 0} (r : Result A Failure) {e : Failure} → IsErr r × IsErrAnd r (λ x. x ≡ e) → e ≡ Write → r ≡ Err Write
 write_failed r w i = handed_on r w ∙ ap Err i
 
 -- behind a piece: the block is answered up to there

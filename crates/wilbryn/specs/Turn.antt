@@ -1,6 +1,6 @@
 -- What the program does between one read and the next, and from its start to its end. Reading and writing are calls of the C library, of which no contract can say
 -- what they moved: so each statement is about the bytes that a read left in the buffer, and about the answers that were formed to be written.
-use Rattle.std.specs.Prelude.{ℕ, ◌≤◌, min, ◌≡◌, ◌⊎◌, List, [], ◌∷◌, ℤ, pos, length, take, Option, None, Some, Result, Ok, Err}
+use Rattle.std.specs.Prelude.{ℕ, ◌≤◌, min, Bool, true, false, ◌≡◌, ◌⊎◌, List, [], ◌∷◌, ℤ, pos, length, take, Option, None, Some, Result, Ok, Err}
 use Rattle.stream.specs.Stream.{empty_state, output, last_output, whole_output}
 use Rattle.stream.specs.Kept.{longest_line, kept_after}
 use Rattle.stream.specs.Call.{keeping, Ready, ending, put_from}
@@ -17,6 +17,12 @@ standard_output = pos 1
 -- to go on, with so much kept of the last line; or the input is over; or a read or a write failed
 abbrev pub Turn : Type 0
 Turn = Result (Option ℕ) Failure
+
+-- as a turn answers it, whether the input goes on, with what is kept then
+abbrev pub taken : Result Bool Failure → ℕ → Turn
+taken (Ok true) kept = Ok (Some kept)
+taken (Ok false) kept = Ok None
+taken (Err e) kept = Err e
 
 -- some input answered, in as many pieces as it took
 pub record Went (state text : List ℕ) (kept : ℕ) (input state' text' : List ℕ) (kept' : ℕ) : Type 0 where

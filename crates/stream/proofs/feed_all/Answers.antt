@@ -11,10 +11,10 @@ returns-then-out-end-lt-ROOM c = record { taken_to = omega arith; taken_some = Î
 
 pub loop-taken-preserved : goal.loop-taken-preserved
 loop-taken-preserved c = (
-  c.step-place.ensures.0,
-  omega (arith, c.step-place.ensures.1),
+  c.step-reached.ensures.0,
+  omega (arith, c.step-reached.ensures.1),
   omega arith,
-  answers_next c.args.block.now c.loop-taken.taken c.loop-taken-test.true (record { long = omega arith; to = omega arith }) c.loop-taken.invariant.3 c.step-place.ensures.2,
+  answers_next c.args.block.now c.loop-taken.taken c.loop-taken-test.true (record { long = omega arith; to = omega arith }) c.loop-taken.invariant.3 c.step-reached.ensures.2,
 )
 
 pub returns : goal.returns
