@@ -1,8 +1,8 @@
 // What the history says of an item against what the calls did.
-use crate::history::{History, Name, Place};
+use crate::history::{Name, Place};
 use crate::item::Item;
+use crate::knowledge::Knowledge;
 use crate::parlour::{Parlour, Step};
-use crate::table;
 use crate::telling::Telling;
 use std::alloc::AllocError;
 
@@ -16,7 +16,7 @@ pub enum Difference {
 }
 
 // Why a comparison stopped.
-#[derive(Debug, Drop)]
+#[derive(Debug, PartialEq, Eq, Drop)]
 pub enum Stop {
     Differs(Difference),
     Memory(AllocError),
@@ -36,40 +36,41 @@ fn check(is_right: bool, difference: Difference) -> Result<(), Stop> {
     }
 }
 
-// A head's own row has another meeting under the name of this one.
-fn is_mistaken(history: &History, head: u8, place: Option<Place>, name: Name) -> bool {
-    (1..=history.stalls())
-        .map(|r| history.latest(head, r))
-        .any(|latest| latest != place && history.is_named(latest, name))
-}
-
-// Some own row has another meeting under the name of the newest one. Names of older meetings need no
-// look: own rows only lose those.
-fn is_ambiguous(history: &History) -> bool {
-    let place = history.newest();
-    history.meeting(place).is_some_and(|newest| {
-        (1..=history.stalls()).any(|head| is_mistaken(history, head, place, newest.name))
-    })
+impl Knowledge<'_> {
+    // The head's own row has another meeting under the name of this one.
+    fn is_mistaken(self, place: Option<Place>, name: Name) -> bool {
+        (1..=self.stalls()).map(|r| self.latest(r)).any(|latest| latest != place
+            && self.history.is_named(latest, name))
+    }
 }
 
 impl Parlour {
+    // Some own row has another meeting under the name of the newest one. Names of older meetings need no
+    // look: own rows only lose those.
+    fn is_ambiguous(&self) -> bool {
+        let place = self.history.newest();
+        self.history.meeting(place).is_some_and(|newest| {
+            (1..=self.stalls()).any(|head| self.knowledge(head).is_mistaken(place, newest.name))
+        })
+    }
+
     // What a head tells is as the history says.
-    fn check_telling(&self, head: u8, telling: Telling) -> Result<(), Stop> {
+    fn check_telling(&self, telling: Telling, head: u8) -> Result<(), Stop> {
         check(
-            telling.is_right(self, head)?,
+            self.told(telling, head).is_right()?,
             Difference::Told(telling, head),
         )
     }
 
     // A head's image, its heard list and its numbers are as the history says.
     fn check_head(&self, head: u8) -> Result<(), Stop> {
-        let wanted = table::image(self.alloc, &self.history, head)?;
+        let wanted = self.knowledge(head).image()?;
         check(
             wanted.as_slice() == self.heads.run(head),
             Difference::Image(head),
         )?;
-        self.check_telling(head, Telling::List)?;
-        self.check_telling(head, Telling::Counts)
+        self.check_telling(Telling::List, head)?;
+        self.check_telling(Telling::Counts, head)
     }
 
     // After an item the heads that it names are looked at, to save time: the images of the others were
@@ -93,7 +94,7 @@ impl Parlour {
         check(step.wanted.answer == step.got.answer, Difference::Answer)?;
         check(step.wanted.run == step.got.run, Difference::Verdicts)?;
         self.check_heads(step.item, is_last)?;
-        self.check_telling(step.item.head(), Telling::Panel)?;
-        check(!is_ambiguous(&self.history), Difference::Names)
+        self.check_telling(Telling::Panel, step.item.head())?;
+        check(!self.is_ambiguous(), Difference::Names)
     }
 }

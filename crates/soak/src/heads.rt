@@ -5,7 +5,7 @@ use crate::sizes::{DONE, LONGEST, image_length, index};
 use std::alloc::{AllocError, Global};
 use std::mem;
 
-#[derive(Debug, Drop)]
+#[derive(Debug, PartialEq, Eq, Drop)]
 pub struct Heads {
     // The bytes of each image, kept beside its run: behind them the run has bytes that no call may write.
     length: usize,
@@ -31,7 +31,7 @@ impl Heads {
 
     // A head's image as the calls before left it, and what stands behind it.
     pub fn run(&self, head: u8) -> &[u8] {
-        match self.runs.get(index(head)) {
+        match index(head).and_then(|place| self.runs.get(place)) {
             Some(run) => run.as_slice(),
             None => &[],
         }
@@ -42,9 +42,13 @@ impl Heads {
         front(self.run(head), self.length)
     }
 
+    fn run_mut(&mut self, head: u8) -> Option<&mut Vec<u8>> {
+        self.runs.get_mut(index(head)?)
+    }
+
     fn image_mut(&mut self, head: u8) -> &mut [u8] {
         let length = self.length;
-        match self.runs.get_mut(index(head)) {
+        match self.run_mut(head) {
             Some(run) => front_mut(run.as_mut_slice(), length),
             None => &mut [],
         }
@@ -52,7 +56,7 @@ impl Heads {
 
     // Puts a run in the place of a head's, which it hands back.
     fn exchange(&mut self, head: u8, run: Vec<u8>) -> Vec<u8> {
-        match self.runs.get_mut(index(head)) {
+        match self.run_mut(head) {
             Some(place) => mem::replace(place, run),
             None => run,
         }

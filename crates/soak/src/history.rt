@@ -6,7 +6,8 @@ use std::alloc::{AllocError, Global};
 use std::cmp::Ordering;
 
 // Where a meeting stands in the history: later meetings stand higher. A place that is lacking, as that
-// of the latest of a stall that was never heard, is older than any.
+// of the latest of a stall that was never heard, is older than any. An index, and no Box of a meeting: many pasts
+// share a meeting, and of two it is the places that say which is newer.
 pub type Place = usize;
 
 // A label is lower than this: all below are tried.
@@ -40,7 +41,7 @@ impl Name {
     }
 }
 
-#[derive(Debug, Drop)]
+#[derive(Debug, PartialEq, Eq, Drop)]
 pub struct Meeting {
     pub name: Name,
     first_yield: Option<u16>,
@@ -54,7 +55,7 @@ pub struct Meeting {
 impl Meeting {
     // The newest meeting of a stall in its past.
     pub fn newest(&self, stall: u8) -> Option<Place> {
-        self.newest.get(index(stall)).copied().flatten()
+        self.newest.get(index(stall)?).copied().flatten()
     }
 
     // The yield that one of its stalls had; none where it was not milked.
@@ -74,7 +75,7 @@ struct Head {
     current: Option<u16>,
 }
 
-#[derive(Debug, Drop)]
+#[derive(Debug, PartialEq, Eq, Drop)]
 pub struct History {
     stalls: u8,
     heads: Vec<Head>,
@@ -115,12 +116,12 @@ impl History {
 
     // The place of a head's last meeting. The past of that is the head's.
     fn last(&self, head: u8) -> Option<Place> {
-        self.heads.get(index(head))?.last
+        self.heads.get(index(head)?)?.last
     }
 
     // A head's yield; none where it was not milked.
     pub fn current(&self, head: u8) -> Option<u16> {
-        self.heads.get(index(head))?.current
+        self.heads.get(index(head)?)?.current
     }
 
     // The latest of a stall for a head.
@@ -162,7 +163,7 @@ impl History {
         })
     }
 
-    // The lowest label that neither head holds of a meeting between the two; 64 if all below are held.
+    // The lowest label that neither head holds of a meeting between the two; 64 if all below are held, and no Option: a label is answered as a number.
     fn new_label(&self, first: u8, second: u8) -> u8 {
         (0..LABELS)
             .find(|&label| {
@@ -221,8 +222,12 @@ impl History {
         Ok(())
     }
 
+    fn head_mut(&mut self, head: u8) -> Option<&mut Head> {
+        self.heads.get_mut(index(head)?)
+    }
+
     fn set_last(&mut self, head: u8, place: Place) {
-        if let Some(head) = self.heads.get_mut(index(head)) {
+        if let Some(head) = self.head_mut(head) {
             head.last = Some(place);
         }
     }
@@ -235,14 +240,14 @@ impl Follower for History {
         if given > YIELD_LIMIT {
             return Refusal::Yield.number();
         }
-        if let Some(head) = self.heads.get_mut(index(stall)) {
+        if let Some(head) = self.head_mut(stall) {
             head.current = Some(given);
         }
         DONE
     }
 
     // A meeting counts when its buffer has n bytes. The verdict on a stall is 1 or 2 where the first or the second
-    // head's news of it is newer, else 0.
+    // head's news of it is newer, else 0: bytes, as C's interface has them in the buffer, and those are compared.
     fn meet(
         &mut self,
         alloc: Global,

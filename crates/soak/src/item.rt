@@ -33,19 +33,14 @@ impl Way {
     fn pair(self, random: &mut Random, history: &History) -> (u8, u8) {
         let n = history.stalls();
         let any = random.stall(n);
-        match self {
-            Way::Neighbours => return (any, after(any, n)),
-            Way::First => return (1, random.other_stall(n, 1)),
-            Way::Again => {
-                if let Some(before) = history.meetings().last() {
-                    if random.below(10) < 6 {
-                        return (before.name.first, before.name.second);
-                    }
-                }
+        match (self, history.meetings().last()) {
+            (Way::Neighbours, _) => (any, after(any, n)),
+            (Way::First, _) => (1, random.other_stall(n, 1)),
+            (Way::Again, Some(before)) if random.below(10) < 6 => {
+                (before.name.first, before.name.second)
             }
-            Way::Anybody => {}
+            (Way::Again | Way::Anybody, _) => (any, random.other_stall(n, any)),
         }
-        (any, random.other_stall(n, any))
     }
 }
 
@@ -91,7 +86,8 @@ impl Item {
         }
     }
 
-    // The head that an item names, of two the first.
+    // The head that an item names, of two the first. Apart from the next function, since one for both is no plainer:
+    // every item has this head, and only some have another.
     pub fn head(self) -> u8 {
         match self {
             Item::Milking { stall, .. } => stall,
@@ -108,8 +104,9 @@ impl Item {
     }
 }
 
-// What follows a list item by item: the history, and the heads. It answers what a call answers, and writes into
-// the buffer what a call writes.
+// What follows a list item by item: the history, and the heads. It answers what a call answers, the number that C
+// gets, since that is what is compared, and writes into the buffer what a call writes. The two are no twins: here
+// they have no bodies.
 pub trait Follower {
     fn milk(&mut self, stall: u8, given: u16) -> u32;
 

@@ -10,6 +10,7 @@ mod heads;
 mod heard;
 mod history;
 mod item;
+mod knowledge;
 mod outcome;
 mod parlour;
 mod random;

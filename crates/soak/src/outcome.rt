@@ -23,7 +23,7 @@ pub fn front(run: &[u8], length: usize) -> &[u8] {
     run.get(..length).unwrap_or(run)
 }
 
-// The same, to be written.
+// The same, to be written: no function is over both kinds of loan.
 pub fn front_mut(run: &mut [u8], length: usize) -> &mut [u8] {
     let length = length.min(run.len());
     &mut run[..length]
@@ -31,6 +31,7 @@ pub fn front_mut(run: &mut [u8], length: usize) -> &mut [u8] {
 
 #[derive(Debug, PartialEq, Eq, Drop)]
 pub struct Outcome {
+    // The number that a call gives C, since that is what is compared.
     pub answer: u32,
     // The buffer, and what stands behind it.
     pub run: Vec<u8>,

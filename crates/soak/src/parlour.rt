@@ -2,10 +2,11 @@
 use crate::heads::Heads;
 use crate::history::History;
 use crate::item::Item;
+use crate::knowledge::Knowledge;
 use crate::outcome::Outcome;
 use std::alloc::{AllocError, Global};
 
-#[derive(Drop)]
+#[derive(Debug, PartialEq, Eq, Drop)]
 pub struct Parlour {
     pub alloc: Global,
     pub history: History,
@@ -13,7 +14,7 @@ pub struct Parlour {
 }
 
 // An item, what the history says of it, and what the calls did.
-#[derive(Debug, Drop)]
+#[derive(Debug, PartialEq, Eq, Drop)]
 pub struct Step {
     pub item: Item,
     pub wanted: Outcome,
@@ -36,6 +37,15 @@ impl Parlour {
 
     pub fn stalls(&self) -> u8 {
         self.history.stalls()
+    }
+
+    // What the history says of a head.
+    pub fn knowledge(&self, head: u8) -> Knowledge<'_> {
+        Knowledge {
+            alloc: self.alloc,
+            history: &self.history,
+            head,
+        }
     }
 
     // Does an item both ways.

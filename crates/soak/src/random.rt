@@ -23,7 +23,7 @@ impl Random {
         self.state
     }
 
-    // A number below n, 0 where n is 0.
+    // A number below n, 0 where n is 0. No From narrows, so casts do, here and below: what is drawn fits.
     pub fn below(&mut self, n: u16) -> u16
         ensures { result ≤ n }
     {
@@ -31,7 +31,7 @@ impl Random {
         drawn.checked_rem(n).unwrap_or(0)
     }
 
-    // The same of bytes. What is drawn fits: no From narrows, here as above.
+    // The same of bytes.
     pub fn below_byte(&mut self, n: u8) -> u8 {
         self.below(u16::from(n)) as u8
     }

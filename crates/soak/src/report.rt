@@ -1,11 +1,10 @@
 // What the program says of a difference.
 use crate::compare::Difference;
 use crate::history::History;
-use crate::outcome::{Hex, Outcome, front};
+use crate::outcome::{Hex, front};
 use crate::parlour::{Parlour, Step};
 use crate::sizes::PANEL;
-use crate::table;
-use crate::telling::Telling;
+use crate::telling::{Telling, Told};
 use std::alloc::AllocError;
 
 // The meetings of the history, this one included if it counts.
@@ -14,10 +13,11 @@ fn say_meetings(text: &mut String, history: &History) -> Result<(), AllocError> 
     for meeting in history.meetings() {
         write!(text, " {}-{}", meeting.name.first, meeting.name.second)?;
     }
-    writeln!(text, "")
+    writeln!(text)
 }
 
-fn say_outcomes(text: &mut String, wanted: &Outcome, got: &Outcome) -> Result<(), AllocError> {
+fn say_outcomes(text: &mut String, step: &Step) -> Result<(), AllocError> {
+    let (wanted, got) = (&step.wanted, &step.got);
     writeln!(
         text,
         "  answer wanted {}, got {}",
@@ -28,17 +28,18 @@ fn say_outcomes(text: &mut String, wanted: &Outcome, got: &Outcome) -> Result<()
 }
 
 fn say_image(text: &mut String, parlour: &Parlour, head: u8) -> Result<(), AllocError> {
-    let wanted = table::image(parlour.alloc, &parlour.history, head)?;
+    let wanted = parlour.knowledge(head).image()?;
     writeln!(text, "  image of head {head}")?;
     writeln!(text, "    wanted {}", Hex(wanted.as_slice()))?;
     writeln!(text, "    got    {}", Hex(parlour.heads.run(head)))
 }
 
 // What the history says. The numbers of what is settled come with no answer, a panel with no byte behind it.
-fn say_wanted(text: &mut String, telling: Telling, wanted: &Outcome) -> Result<(), AllocError> {
+fn say_wanted(text: &mut String, told: Told) -> Result<(), AllocError> {
+    let wanted = told.wanted()?;
     let answer = wanted.answer;
     let run = wanted.run.as_slice();
-    match telling {
+    match told.telling {
         Telling::List => writeln!(text, "    answer {answer} wanted, {}", Hex(run)),
         Telling::Counts => writeln!(text, "    wanted {}", Hex(run)),
         Telling::Panel => writeln!(
@@ -50,14 +51,8 @@ fn say_wanted(text: &mut String, telling: Telling, wanted: &Outcome) -> Result<(
 }
 
 // What the call answers and writes for a buffer of a length.
-fn say_got(
-    text: &mut String,
-    parlour: &Parlour,
-    telling: Telling,
-    head: u8,
-    length: usize,
-) -> Result<(), AllocError> {
-    let got = telling.got(parlour, head, length)?;
+fn say_got(text: &mut String, told: Told, length: usize) -> Result<(), AllocError> {
+    let got = told.got(length)?;
     let run = Hex(got.run.as_slice());
     writeln!(
         text,
@@ -66,18 +61,12 @@ fn say_got(
     )
 }
 
-fn say_telling(
-    text: &mut String,
-    parlour: &Parlour,
-    telling: Telling,
-    head: u8,
-) -> Result<(), AllocError> {
-    let n = parlour.stalls();
-    writeln!(text, "  {telling} of head {head}")?;
-    say_wanted(text, telling, &telling.wanted(parlour, head)?)?;
-    say_got(text, parlour, telling, head, telling.length(n))?;
-    for other in telling.refused_lengths(n).into_iter().flatten() {
-        say_got(text, parlour, telling, head, other)?;
+fn say_telling(text: &mut String, told: Told) -> Result<(), AllocError> {
+    writeln!(text, "  {} of head {}", told.telling, told.head)?;
+    say_wanted(text, told)?;
+    say_got(text, told, told.length())?;
+    for other in told.refused_lengths().into_iter().flatten() {
+        say_got(text, told, other)?;
     }
     Ok(())
 }
@@ -88,10 +77,10 @@ pub fn text(parlour: &Parlour, step: &Step, difference: Difference) -> Result<St
     writeln!(text, "first difference of n = {}", parlour.stalls())?;
     writeln!(text, "  {}", step.item)?;
     say_meetings(&mut text, &parlour.history)?;
-    say_outcomes(&mut text, &step.wanted, &step.got)?;
+    say_outcomes(&mut text, step)?;
     match difference {
         Difference::Image(head) => say_image(&mut text, parlour, head)?,
-        Difference::Told(telling, head) => say_telling(&mut text, parlour, telling, head)?,
+        Difference::Told(telling, head) => say_telling(&mut text, parlour.told(telling, head))?,
         Difference::Names => {
             writeln!(
                 text,

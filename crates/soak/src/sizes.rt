@@ -34,7 +34,8 @@ impl Refusal {
     // A label or a count is below this, and a refusal of a call that answers one is its number above.
     pub const ABOVE: u32 = 256;
 
-    // What a call answers that has nothing else to tell: C's interface, as is the other.
+    // What a call answers that has nothing else to tell: C's interface, as is the other. From reads no number of
+    // an enum, so the cast does.
     pub fn number(self) -> u32
         ensures { result ≤ 8 }
     {
@@ -47,9 +48,9 @@ impl Refusal {
     }
 }
 
-// Where what is told of a stall stands: stalls are counted from 1.
-pub fn index(stall: u8) -> usize {
-    usize::from(stall).wrapping_sub(1)
+// Where what is told of a stall stands: stalls are counted from 1, so 0 has no place.
+pub fn index(stall: u8) -> Option<usize> {
+    usize::from(stall).checked_sub(1)
 }
 
 // The bytes of an order entry: "From 9 up, an order byte becomes two bytes".

@@ -2,7 +2,6 @@
 use crate::item::Item;
 use crate::parlour::{Parlour, Step};
 use crate::sizes::{DONE, Refusal};
-use crate::{heard, settled, text};
 use std::alloc::AllocError;
 use std::fmt;
 
@@ -28,11 +27,10 @@ fn add(total: &mut u64, count: usize) {
 impl Tally {
     // An item and its answer, and what the head that it names says of what it has heard.
     pub fn note(&mut self, parlour: &Parlour, step: &Step) -> Result<(), AllocError> {
-        let head = step.item.head();
-        let (alloc, history) = (parlour.alloc, &parlour.history);
-        add(&mut self.moved, heard::moved(alloc, history, head)?);
-        add(&mut self.settled, settled::settled(history, head));
-        let text = text::text(alloc, history, head)?;
+        let knowledge = parlour.knowledge(step.item.head());
+        add(&mut self.moved, knowledge.moved()?);
+        add(&mut self.settled, knowledge.settled());
+        let text = knowledge.text()?;
         add(&mut self.characters, text.len());
         add(&mut self.items, 1);
         let answer = step.got.answer;

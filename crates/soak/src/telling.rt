@@ -2,7 +2,6 @@
 use crate::outcome::{Outcome, make_room, unwritten};
 use crate::parlour::Parlour;
 use crate::sizes::{PANEL, Refusal, STALLS};
-use crate::{heard, settled, text};
 use std::alloc::AllocError;
 use std::fmt;
 
@@ -23,6 +22,7 @@ impl fmt::Display for Telling {
     }
 }
 
+// Answers are numbers: what the calls give C, and that is what is compared.
 impl Telling {
     fn call(self, image: &[u8], buffer: &mut [u8]) -> u32 {
         match self {
@@ -33,7 +33,7 @@ impl Telling {
     }
 
     // How long its buffer is for n heads.
-    pub fn length(self, n: u8) -> usize {
+    fn length(self, n: u8) -> usize {
         match self {
             Telling::List => 3 * usize::from(n),
             Telling::Counts => usize::from(n),
@@ -50,16 +50,6 @@ impl Telling {
         }
     }
 
-    // Other lengths, which it must refuse: a byte more, and for a panel a byte fewer too.
-    pub fn refused_lengths(self, n: u8) -> [Option<usize>; 2] {
-        let length = self.length(n);
-        let shorter = match self {
-            Telling::Panel => length.checked_sub(1),
-            Telling::List | Telling::Counts => None,
-        };
-        [shorter, length.checked_add(1)]
-    }
-
     // What it answers to a buffer of another length. The numbers of what is settled come with no count.
     fn refusal(self) -> u32 {
         match self {
@@ -67,44 +57,78 @@ impl Telling {
             Telling::List | Telling::Panel => Refusal::Buffer.answer(),
         }
     }
+}
 
-    // What the history says of a head, with unwritten bytes behind.
-    pub fn wanted(self, parlour: &Parlour, head: u8) -> Result<Outcome, AllocError> {
-        let (alloc, history) = (parlour.alloc, &parlour.history);
-        let mut wanted = match self {
-            Telling::List => heard::wanted(alloc, history, head)?,
-            Telling::Counts => settled::wanted(alloc, history, head)?,
-            Telling::Panel => text::wanted(alloc, history, head)?,
+// What is told of one head of a parlour.
+#[derive(Clone, Copy, Debug, PartialEq, Eq)]
+pub struct Told<'a> {
+    parlour: &'a Parlour,
+    pub telling: Telling,
+    pub head: u8,
+}
+
+impl Parlour {
+    pub fn told(&self, telling: Telling, head: u8) -> Told<'_> {
+        Told {
+            parlour: self,
+            telling,
+            head,
+        }
+    }
+}
+
+impl Told<'_> {
+    // How long the buffer is.
+    pub fn length(self) -> usize {
+        self.telling.length(self.parlour.stalls())
+    }
+
+    // Other lengths, which the call must refuse: a byte more, and for a panel a byte fewer too.
+    pub fn refused_lengths(self) -> [Option<usize>; 2] {
+        let length = self.length();
+        let shorter = match self.telling {
+            Telling::Panel => length.checked_sub(1),
+            Telling::List | Telling::Counts => None,
         };
-        make_room(&mut wanted.run, self.room())?;
+        [shorter, length.checked_add(1)]
+    }
+
+    // What the history says of the head, with unwritten bytes behind.
+    pub fn wanted(self) -> Result<Outcome, AllocError> {
+        let knowledge = self.parlour.knowledge(self.head);
+        let mut wanted = match self.telling {
+            Telling::List => knowledge.list()?,
+            Telling::Counts => knowledge.counts()?,
+            Telling::Panel => knowledge.panel()?,
+        };
+        make_room(&mut wanted.run, self.telling.room())?;
         Ok(wanted)
     }
 
-    // What the call does with a head's image and a buffer of a length.
-    pub fn got(self, parlour: &Parlour, head: u8, length: usize) -> Result<Outcome, AllocError> {
-        let image = parlour.heads.image(head);
-        Outcome::of_call(parlour.alloc, self.room(), length, |buffer| {
-            self.call(image, buffer)
+    // What the call does with the head's image and a buffer of a length.
+    pub fn got(self, length: usize) -> Result<Outcome, AllocError> {
+        let image = self.parlour.heads.image(self.head);
+        Outcome::of_call(self.parlour.alloc, self.telling.room(), length, |buffer| {
+            self.telling.call(image, buffer)
         })
     }
 
-    // It refuses a buffer of a length, and writes nothing.
-    fn is_refused(self, parlour: &Parlour, head: u8, length: usize) -> Result<bool, AllocError> {
+    // The call refuses a buffer of a length, and writes nothing.
+    fn is_refused(self, length: usize) -> Result<bool, AllocError> {
         let wanted = Outcome {
-            answer: self.refusal(),
-            run: unwritten(parlour.alloc, self.room())?,
+            answer: self.telling.refusal(),
+            run: unwritten(self.parlour.alloc, self.telling.room())?,
         };
-        Ok(self.got(parlour, head, length)? == wanted)
+        Ok(self.got(length)? == wanted)
     }
 
     // The call does what the history says, and refuses a buffer of another length.
-    pub fn is_right(self, parlour: &Parlour, head: u8) -> Result<bool, AllocError> {
-        let n = parlour.stalls();
-        if self.got(parlour, head, self.length(n))? != self.wanted(parlour, head)? {
+    pub fn is_right(self) -> Result<bool, AllocError> {
+        if self.got(self.length())? != self.wanted()? {
             return Ok(false);
         }
-        for length in self.refused_lengths(n).into_iter().flatten() {
-            if !self.is_refused(parlour, head, length)? {
+        for length in self.refused_lengths().into_iter().flatten() {
+            if !self.is_refused(length)? {
                 return Ok(false);
             }
         }

@@ -1,10 +1,9 @@
 // The text of a head's wall panel: a line for each stall that it has heard of. Made of the records that a
 // history gives, by the documents' rule alone.
-use crate::heard;
-use crate::history::History;
+use crate::knowledge::Knowledge;
 use crate::outcome::Outcome;
 use crate::sizes::PANEL;
-use std::alloc::{AllocError, Global};
+use std::alloc::AllocError;
 use std::fmt;
 
 // "Yield in litres with one decimal, or `-` for not milked".
@@ -20,21 +19,24 @@ impl fmt::Display for Litres {
     }
 }
 
-// "Rank, stall, yield, single blanks between, newline after each"; the order is that of the records.
-pub fn text(alloc: Global, history: &History, head: u8) -> Result<String, AllocError> {
-    let mut text = String::new(alloc);
-    let records = heard::records(alloc, history, head)?;
-    for (rank, record) in (1u8..).zip(records.iter()) {
-        let litres = Litres(record.given);
-        writeln!(text, "{rank} {} {litres}", record.stall)?;
+impl Knowledge<'_> {
+    // "Rank, stall, yield, single blanks between, newline after each"; the order is that of the records.
+    pub fn text(self) -> Result<String, AllocError> {
+        let mut text = String::new(self.alloc);
+        let records = self.records()?;
+        for (rank, record) in (1u8..).zip(records.iter()) {
+            let litres = Litres(record.given);
+            writeln!(text, "{rank} {} {litres}", record.stall)?;
+        }
+        Ok(text)
     }
-    Ok(text)
-}
 
-// What the call must answer and write: "the rest of the buffer is zeros and the written length comes back".
-pub fn wanted(alloc: Global, history: &History, head: u8) -> Result<Outcome, AllocError> {
-    let mut run = text(alloc, history, head)?.into_bytes();
-    let answer = u32::try_from(run.len()).unwrap_or(u32::MAX);
-    run.resize(PANEL, 0)?;
-    Ok(Outcome { answer, run })
+    // What the call of the panel must answer and write: "the rest of the buffer is zeros and the written length
+    // comes back".
+    pub fn panel(self) -> Result<Outcome, AllocError> {
+        let mut run = self.text()?.into_bytes();
+        let answer = u32::try_from(run.len()).unwrap_or(u32::MAX);
+        run.resize(PANEL, 0)?;
+        Ok(Outcome { answer, run })
+    }
 }
