@@ -14,8 +14,7 @@ pub(crate) fn one_byte(column: usize, partner: u8, label: u8) -> u8
     ensures { result ≡ name_byte (suc column) (name_from partner label) % 256 }
 {
     if partner == 0 {
-        // The lower eight bits, which no From takes. Columns count as the places of a row do: with columns and n as bytes, tried, a packed meeting
-        // of eight heads took 1.06 of the time of the older code, as it stands 1.04.
+        // The lower eight bits, which no From takes. Columns count as the places of a row do: as bytes each would be widened for its place.
         return ((column * 32) % 256) as u8;
     }
     (partner - 1).wrapping_mul(32).wrapping_add(label)
