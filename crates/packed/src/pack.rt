@@ -3,7 +3,7 @@
 // Image, packed image and n stay three parameters in these functions: one of the runs is lent `&mut` in each, and a struct that holds a `&mut` needs a
 // clause more on each method; one that holds the other would say half of what they require, as both lengths go by the same n.
 // Columns are counted, and rows have places that go along: what is written through the items that `iter_mut` hands out in a zip or as chunks has no
-// name in the loop's invariant (tried at `copy`), and unpacking is part of the check, which divides by no n as `chunks_exact(n)` does.
+// name in the loop's invariant (see `copy`), and unpacking is part of the check, which divides by no n as `chunks_exact(n)` does.
 ghost use Rattle.std.specs.Prelude.{◌≡◌, ◌+◌, ◌-◌, ◌*◌, ◌%◌, ◌≤◌, [], ◌∷◌, ◌++◌, length, take, drop, get_or};
 ghost use Rattle.image.specs.Layout.{largest, name_from};
 ghost use Rattle.image.specs.Frame.{Sized};

@@ -105,7 +105,7 @@ fn record_at(bytes: &[u8], i: usize) -> Record
     }
 }
 
-// The lines of the first records, which are counted beside their bytes: with `chunks_exact(3).enumerate()`, tried, the room for a line stayed open, as
+// The lines of the first records, which are counted beside their bytes: with `chunks_exact(3).enumerate()` the check leaves the room for a line open, as
 // only the steps of the iterator tell the loop which bytes it was handed; and by the bytes alone their length would be divided by three.
 fn put_lines(bytes: &[u8], count: usize, text: &mut [u8]) -> usize
     requires { (count ≤ largest) × (3 * count ≤ length bytes.now) × (length text.old ≡ panel_length) }
