@@ -11,7 +11,7 @@ ghost use Rattle.merge.specs.Call.{MeetingOutcome, meeting_call};
 use crate::form::Plain;
 
 pub mod form;
-mod heard;
+pub mod heard;
 mod settled;
 
 // The number of the first check that fails, 0 where none does.

@@ -3,11 +3,12 @@
 ghost use Rattle.std.specs.Prelude.{◌≡◌, true, ◌++◌, ◌+◌, ◌*◌, ◌≤◌, ◌<◌, length, get_or, take, drop};
 ghost use Rattle.line.specs.Digits.{is_digit, digit_value, all_digits, pair_value, digit_of, pair_of, digits_of};
 
+// Both ranges are looked at in any case: nothing branches there.
 #[tactic(auto, unfolding(crate::specs::Digits::is_digit))]
 fn is_digit(c: u8) -> bool
     ensures { result ≡ is_digit c }
 {
-    matches!(c, b'0'..=b'9' | b'a'..=b'f')
+    matches!(c, b'0'..=b'9') | matches!(c, b'a'..=b'f')
 }
 
 // Every byte of a line is a digit.

@@ -86,12 +86,12 @@ fn parse_digits(line: &[u8]) -> Frame
     }
 }
 
-// The frame of a line. No frame has more than 8 digits.
+// The frame of a line. Its length is looked at first: a frame has 4, 6 or 8 digits, and a line of any other length, as an empty one, is refused at once.
 #[tactic(auto, using(crate::proofs::Parsing::parsings))]
 pub fn parse(line: &[u8]) -> Frame
     ensures { result ≡ frame_of line.now }
 {
-    if line.len() <= 8 && are_digits(line) {
+    if matches!(line.len(), 4 | 6 | 8) && are_digits(line) {
         parse_digits(line)
     } else {
         Frame::Bad

@@ -11,12 +11,16 @@ use image::bytes::yields_place;
 use image::orders::{order_width, orders_place, put_order};
 use image::{ROW, STALLS};
 
-// What another image of the same length holds behind its first four bytes.
+// What another image of the same length holds behind its first four bytes. By a loop: `copy_from_slice` of two runs of which the compiler does not know
+// that they lie apart calls memmove, and firmware links memcpy and memset alone.
 pub(crate) fn copy_body(image: &mut [u8], from: &[u8])
     requires { (4 ≤ length image.old) × (length image.old ≡ length from.now) }
     ensures { image.new ≡ take 4 image.old ++ drop 4 from.now }
 {
-    image[4..].copy_from_slice(&from[4..]);
+    let rest = image.len() - 4;
+    for i in 0..rest {
+        image[4 + i] = from[4 + i];
+    }
 }
 
 // Bytes at a place.

@@ -1,14 +1,15 @@
 // The history of a list, written from the documents alone: it is handed the items, and looks at no image and no
 // answer. Whose news is newer is read from places and pasts; labels decide nothing here.
 use crate::item::Follower;
-use crate::sizes::{DONE, Refusal, YIELD_LIMIT, index};
+use crate::sizes::{DONE, ITEMS, Refusal, STALLS, YIELD_LIMIT, index};
 use std::alloc::{AllocError, Global};
 use std::cmp::Ordering;
 
 // Where a meeting stands in the history: later meetings stand higher. A place that is lacking, as that
 // of the latest of a stall that was never heard, is older than any. An index, and no Box of a meeting: many pasts
-// share a meeting, and of two it is the places that say which is newer.
-pub type Place = usize;
+// share a meeting, and of two it is the places that say which is newer. Two bytes, since each meeting keeps many;
+// a list has fewer meetings than items.
+pub type Place = u16;
 
 // A label is lower than this: all below are tried.
 const LABELS: u8 = 64;
@@ -41,15 +42,35 @@ impl Name {
     }
 }
 
-#[derive(Debug, PartialEq, Eq, Drop)]
+// For each place whether that meeting lies in a past, in bits: a run for each meeting would scatter the memory.
+#[derive(Clone, Copy, Debug, PartialEq, Eq)]
+struct Past([u64; WORDS]);
+
+const WORDS: usize = ITEMS as usize / 64 + 1;
+
+impl Past {
+    fn has(&self, place: Place) -> bool {
+        match self.0.get(usize::from(place / 64)) {
+            Some(word) => *word >> u32::from(place % 64) & 1 == 1,
+            None => false,
+        }
+    }
+
+    fn add(&mut self, place: Place) {
+        if let Some(word) = self.0.get_mut(usize::from(place / 64)) {
+            *word |= 1u64 << u32::from(place % 64);
+        }
+    }
+}
+
+#[derive(Clone, Copy, Debug, PartialEq, Eq)]
 pub struct Meeting {
     pub name: Name,
     first_yield: Option<u16>,
     second_yield: Option<u16>,
-    // For each place up to its own whether that meeting lies in its past.
-    past: Vec<bool>,
+    past: Past,
     // For each stall the newest meeting of it in the past.
-    newest: Vec<Option<Place>>,
+    newest: [Option<Place>; STALLS],
 }
 
 impl Meeting {
@@ -83,7 +104,7 @@ pub struct History {
 }
 
 impl History {
-    // No meeting, and no head was milked.
+    // No meeting, and no head was milked. There is room for all meetings, so that no run is copied to a longer one.
     pub fn new(alloc: Global, stalls: u8) -> Result<History, AllocError> {
         let head = Head {
             last: None,
@@ -92,7 +113,7 @@ impl History {
         Ok(History {
             stalls,
             heads: vec![in alloc; head; usize::from(stalls)]?,
-            meetings: Vec::new(alloc),
+            meetings: Vec::with_capacity(alloc, usize::from(ITEMS))?,
         })
     }
 
@@ -106,12 +127,17 @@ impl History {
 
     // The meeting at a place; none at none.
     pub fn meeting(&self, place: Option<Place>) -> Option<&Meeting> {
-        self.meetings.get(place?)
+        self.meetings.get(usize::from(place?))
+    }
+
+    // The place that the next meeting gets. It fits: no list has as many meetings.
+    fn next(&self) -> Place {
+        Place::try_from(self.meetings.len()).unwrap_or(Place::MAX)
     }
 
     // The place of the newest meeting.
     pub fn newest(&self) -> Option<Place> {
-        self.meetings.len().checked_sub(1)
+        self.next().checked_sub(1)
     }
 
     // The place of a head's last meeting. The past of that is the head's.
@@ -137,7 +163,7 @@ impl History {
     // Meeting a lies in the past of meeting b. None lies in no past and has none.
     pub fn is_in_past(&self, a: Option<Place>, b: Option<Place>) -> bool {
         match (a, self.meeting(b)) {
-            (Some(a), Some(b)) => b.past.get(a) == Some(&true),
+            (Some(a), Some(b)) => b.past.has(a),
             _ => false,
         }
     }
@@ -177,37 +203,42 @@ impl History {
             .unwrap_or(LABELS)
     }
 
-    // For each place up to a new one whether it lies in the new meeting's past, which is itself and the
-    // pasts of both heads: a chain to it comes through an earlier meeting of one of them, and from
-    // there a chain runs to that head's last.
-    fn new_past(&self, alloc: Global, name: Name) -> Result<Vec<bool>, AllocError> {
+    // The past of a new meeting, which is itself and the pasts of both heads: a chain to it comes through an earlier
+    // meeting of one of them, and from there a chain runs to that head's last.
+    fn new_past(&self, name: Name) -> Past {
         let one = self.last(name.first);
         let two = self.last(name.second);
-        let mut past: Vec<bool> = (0..self.meetings.len())
-            .map(|a| self.is_in_past(Some(a), one) || self.is_in_past(Some(a), two))
-            .collect(alloc)?;
-        past.push(true)?;
-        Ok(past)
+        let place = self.next();
+        let mut past = Past([0; WORDS]);
+        for a in 0..=place {
+            if a == place || self.is_in_past(Some(a), one) || self.is_in_past(Some(a), two) {
+                past.add(a);
+            }
+        }
+        past
     }
 
     // The newest meeting of a stall in the past of a new one, looked for from the newest down.
-    fn find_newest(&self, name: Name, past: &[bool], stall: u8) -> Option<Place> {
-        let place = self.meetings.len();
+    fn find_newest(&self, name: Name, past: &Past, stall: u8) -> Option<Place> {
         if name.has(stall) {
-            return Some(place);
+            return Some(self.next());
         }
-        past.iter()
-            .zip(self.meetings.iter())
-            .rposition(|(&is_past, meeting)| is_past && meeting.name.has(stall))
+        (0..self.next()).rev().find(|&place| {
+            past.has(place)
+                && self
+                    .meeting(Some(place))
+                    .is_some_and(|meeting| meeting.name.has(stall))
+        })
     }
 
     // Adds a meeting at the next place.
-    fn add(&mut self, alloc: Global, name: Name) -> Result<(), AllocError> {
-        let place = self.meetings.len();
-        let past = self.new_past(alloc, name)?;
-        let newest = (1..=self.stalls)
-            .map(|stall| self.find_newest(name, past.as_slice(), stall))
-            .collect(alloc)?;
+    fn add(&mut self, name: Name) -> Result<(), AllocError> {
+        let place = self.next();
+        let past = self.new_past(name);
+        let mut newest = [None; STALLS];
+        for (stall, place) in (1..=self.stalls).zip(newest.iter_mut()) {
+            *place = self.find_newest(name, &past, stall);
+        }
         let first_yield = self.current(name.first);
         let second_yield = self.current(name.second);
         self.meetings.push(Meeting {
@@ -250,7 +281,7 @@ impl Follower for History {
     // head's news of it is newer, else 0: bytes, as C's interface has them in the buffer, and those are compared.
     fn meet(
         &mut self,
-        alloc: Global,
+        _alloc: Global,
         first: u8,
         second: u8,
         verdicts: &mut [u8],
@@ -268,14 +299,11 @@ impl Follower for History {
             };
         }
         let label = self.new_label(first, second);
-        self.add(
-            alloc,
-            Name {
-                first,
-                second,
-                label,
-            },
-        )?;
+        self.add(Name {
+            first,
+            second,
+            label,
+        })?;
         Ok(u32::from(label))
     }
 }

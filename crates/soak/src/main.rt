@@ -1,8 +1,9 @@
 // Long pseudo-random lists of milkings and meetings for every size of a parlour, through the calls of a head and
-// through a history program that is written from the documents alone and shares no code with the calls. Prints for
-// each size how many items there were, and how many of them counted or were refused; then, of the head that each
-// item names, how many records of its heard list stood elsewhere than at their stall's number, how many of its
-// numbers of what is settled were n, and how many characters its panel had; then how many lists differed.
+// through a history program that is written from the documents alone and shares neither the calls' code nor the sort
+// that they use. Prints for each size how many items there were, and how many of them counted or were refused; then,
+// of the head that each item names, how many records of its heard list stood elsewhere than at their stall's number,
+// how many of its numbers of what is settled were n, and how many characters its panel had; then how many lists
+// differed.
 #![tactic(auto)]
 
 mod compare;
@@ -28,7 +29,7 @@ use parlour::Parlour;
 use random::Random;
 use sizes::{ITEMS, MOST};
 use std::alloc::{AllocError, Global};
-use tally::Tally;
+use tally::{Tally, say_number};
 
 // The lists of each size: each way comes equally often.
 const LISTS: usize = 120;
@@ -93,11 +94,18 @@ fn run_lists(
     Ok(tally)
 }
 
+// The cast widens: From has none from a length.
+fn say_tally(rt: &impl Print, n: u8, tally: &Tally) {
+    say_number(rt, "n = ", u64::from(n));
+    say_number(rt, ": ", LISTS as u64);
+    tally.say(rt);
+}
+
 fn main(rt: HostRuntime) -> Result<(), AllocError> {
     let mut random = Random::new(20260701);
     for n in 2..=MOST {
         let tally = run_lists(&rt, rt.alloc(), &mut random, n)?;
-        println!(rt; "n = {n}: {LISTS} lists, {tally}").ok();
+        say_tally(&rt, n, &tally);
     }
     Ok(())
 }

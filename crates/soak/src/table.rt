@@ -5,9 +5,12 @@ use crate::outcome::make_room;
 use crate::sizes::{LONGEST, order_width};
 use std::alloc::AllocError;
 
-// A yield in two bytes, ffff where the stall was not milked or never heard.
+// The number for not milked, and for never heard.
+const NOT_MILKED: u16 = 0xffff;
+
+// A yield in two bytes.
 pub fn yield_bytes(given: Option<u16>) -> [u8; 2] {
-    given.unwrap_or(0xffff).to_be_bytes()
+    given.unwrap_or(NOT_MILKED).to_be_bytes()
 }
 
 impl Knowledge<'_> {

@@ -3,7 +3,6 @@ use crate::item::Item;
 use crate::parlour::{Parlour, Step};
 use crate::sizes::{DONE, Refusal};
 use std::alloc::AllocError;
-use std::fmt;
 
 #[derive(Clone, Copy, Debug, Default, PartialEq, Eq)]
 pub struct Tally {
@@ -51,22 +50,25 @@ impl Tally {
     }
 }
 
-impl fmt::Display for Tally {
-    fn fmt<W: fmt::Write>(&self, f: &mut fmt::Formatter<W>) -> fmt::Result {
-        write!(
-            f,
-            "{} items: {} milkings, {} meetings, ",
-            self.items, self.milkings, self.meetings
-        )?;
-        write!(
-            f,
-            "refused {} with 4 and {} with 8; largest label {}, ",
-            self.refused_milkings, self.refused_meetings, self.largest_label
-        )?;
-        write!(
-            f,
-            "{} records moved, {} numbers of n, {} characters on panels; {} differences",
-            self.moved, self.settled, self.characters, self.differences
-        )
+// A text and a number, each in a write of its own: one that fails loses its own piece alone.
+pub fn say_number(rt: &impl Print, text: &str, number: u64) {
+    print!(rt; "{text}").ok();
+    print!(rt; "{number}").ok();
+}
+
+impl Tally {
+    // What it came to, piece by piece: a Display would be written at once, and lost as a whole.
+    pub fn say(&self, rt: &impl Print) {
+        say_number(rt, " lists, ", self.items);
+        say_number(rt, " items: ", self.milkings);
+        say_number(rt, " milkings, ", self.meetings);
+        say_number(rt, " meetings, refused ", self.refused_milkings);
+        say_number(rt, " with 4 and ", self.refused_meetings);
+        say_number(rt, " with 8; largest label ", u64::from(self.largest_label));
+        say_number(rt, ", ", self.moved);
+        say_number(rt, " records moved, ", self.settled);
+        say_number(rt, " numbers of n, ", self.characters);
+        say_number(rt, " characters on panels; ", self.differences);
+        println!(rt; " differences").ok();
     }
 }

@@ -3,7 +3,7 @@
 
 ghost use Rattle.std.specs.Prelude.{◌≡◌, ◌≤◌, length, Some, IfOk, IfErr};
 ghost use Rattle.stream.specs.Call.{Ready};
-ghost use Rattle.wilbryn.specs.Turn.{standard_input, standard_output, BlockAnswered, RestAnswered, AfterBlock, TurnTaken, Ran, Start, taken};
+ghost use Rattle.wilbryn.specs.Turn.{standard_input, standard_output, BlockAnswered, RestAnswered, AfterBlock, ReadAnswered, TurnTaken, Ran, Start, taken};
 ghost use Rattle.wilbryn.specs.declared.Failure.TheVariants.{Read as Unread, Write as Unwritten};
 
 use std::io::{Read, Stdin, Stdout, Write};
@@ -90,8 +90,8 @@ impl Lines {
         Ok(false)
     }
 
-    // Answers what a read brought: nothing at the end of the input.
-    fn answer_read(&mut self, output: Stdout, block: &[u8]) -> Turn
+    // Answers what a block of input brought: nothing at the end of the input.
+    fn answer_some(&mut self, output: Stdout, block: &[u8]) -> Turn
         ensures { AfterBlock self.old.state self.old.text self.old.kept block.now self.old.out self.new.state self.new.text self.new.out (taken result self.new.kept) }
     {
         if block.is_empty() {
@@ -101,12 +101,22 @@ impl Lines {
         }
     }
 
+    // Answers what a read put into the input buffer.
+    fn answer_read(&mut self, output: Stdout, input: &[u8], got: Result<usize, Failure>) -> Turn
+        ensures { ReadAnswered self.old.state self.old.text self.old.kept input.now got self.old.out self.new.state self.new.text self.new.out (taken result self.new.kept) }
+    {
+        match got {
+            Ok(count) => self.answer_some(output, &input[..count.min(input.len())]),
+            Err(_) => Err(Failure::Read),
+        }
+    }
+
     // Reads a block and answers it. Every answer so far is written before the read, which may wait.
     fn read_block(&mut self, ends: Ends, input: &mut [u8]) -> Turn
         ensures { TurnTaken self.old.state self.old.text self.old.kept self.old.out self.new.state self.new.text input.new self.new.out (taken result self.new.kept) }
     {
-        let count = read_from(ends.input, input)?;
-        self.answer_read(ends.output, &input[..count])
+        let got = read_from(ends.input, input);
+        self.answer_read(ends.output, input, got)
     }
 
     // A proved loop has to end, and nothing says that the input does: so it counts to a number that no run uses up.
